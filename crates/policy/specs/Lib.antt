@@ -1,0 +1,7 @@
+pub mod Lists
+pub mod Bytes
+pub mod Records
+pub mod Steps
+pub mod Tree
+pub mod Opened
+pub mod Parts

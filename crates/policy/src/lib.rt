@@ -1,0 +1,1 @@
+// Definitions only, in specs/: the file, its records, and the policy that they hold.
