@@ -1,0 +1,365 @@
+-- Rule 5, the tree rule: every node's number is in the tree once and below the number of nodes, and the fuel of `tree` is enough.
+-- Assumes nothing.
+use Prim.Native.Nat.{ℕ, zero, suc, _+_, _-_, _≤_, _<_}
+use native.Mathlib.Nat.{le-refl, zero-lt-suc}
+use native.Mathlib.Omega.{arith}
+use mathlib.Core.Path.{_≡_, refl, sym, _∙_, ap, subst}
+use mathlib.Core.Logic.{_⊎_, inl, inr, ⊎-elim}
+use mathlib.Core.Bool.{Bool, true, false, _&&_, _||_, not}
+use mathlib.Core.List.{List, [], _∷_, map}
+use lib.Dec.{T, eqb, eqb→eq, eqb-refl, ltb, ltb→lt}
+use lib.ListN.{length, getD, drop}
+use Rattle.actions.proofs.Tests.{yes-of, and-left, and-right, or-cases, bool-cases, no-of, not-not, or-false-left, or-false-right}
+use Rattle.policy.proofs.ListLaws.{listed-length, listed-at, everyAt-from-0}
+use Rattle.policy.specs.Bytes.{Bytes}
+use Rattle.policy.specs.Lists.{one, occurs, everyAt}
+use Rattle.policy.specs.Records.{Node, nodeAt, nodePlace, nodeCount, nodes, rows}
+use Rattle.policy.specs.Steps.{Step, stepOf}
+use Rattle.policy.specs.Tree.{Way, Join, NodeKind, aLeaf, aTrivial, anUnsatisfiable, aPair, noNode, nodeKind, owned, noPlace, placed, places, Tree, leaf, trivial, unsatisfiable, node, grown, tree}
+use Rattle.rules.specs.Children.{later, children, oneParent, broken5}
+use Rattle.rules.proofs.Lawful.{holds, Disjoint, Numbered}
+use Rattle.rules.proofs.Grown.{placeIn, nodeIn, kindIn, shaped, shaped-same, grown-suc, grown-is}
+
+-- ---- how often n is a child
+
+-- what stands past the nodes of a list
+abbrev pub noN : Node
+noN = noPlace .node
+
+-- how often n is a child of x
+kids : ℕ → Node → ℕ
+kids n x = occurs n (children (x ∷ []))
+
+kids-cons : (n : ℕ) (x : Node) (xs : List Node) → occurs n (children (x ∷ xs)) ≡ kids n x + occurs n (children xs)
+unfolding kids children occurs
+kids-cons n x xs = by (nodeKind (x .kind)) refl
+  where
+    by : (k : NodeKind) → nodeKind (x .kind) ≡ k → occurs n (children (x ∷ xs)) ≡ occurs n (children (x ∷ [])) + occurs n (children xs)
+    by aLeaf e = rw (e, children) (omega arith)
+    by aTrivial e = rw (e, children) (omega arith)
+    by anUnsatisfiable e = rw (e, children) (omega arith)
+    by noNode e = rw (e, children) (omega arith)
+    by (aPair w j) e = rw (e, children) (omega arith)
+
+kids-pair : (n : ℕ) (x : Node) (w : Way) (j : Join) → nodeKind (x .kind) ≡ aPair w j → kids n x ≡ one (eqb (x .left) n) + one (eqb (x .right) n)
+unfolding kids children occurs
+kids-pair n x w j e = rw (e, children) (omega arith)
+
+kids-none : (n : ℕ) → kids n noN ≡ 0
+unfolding kids children occurs noPlace nodeKind
+kids-none n = refl
+
+module _ (n : ℕ) where
+  kids-one : (xs : List Node) (p : ℕ) → kids n (getD xs p noN) ≤ occurs n (children xs)
+  kids-one [] p = omega (arith, kids-none n)
+  kids-one (x ∷ xs) zero = omega (arith, kids-cons n x xs)
+  kids-one (x ∷ xs) (suc p) = omega (arith, kids-cons n x xs, kids-one xs p)
+
+  kids-two : (xs : List Node) (p q : ℕ) → (p ≡ q → ⊥) → kids n (getD xs p noN) + kids n (getD xs q noN) ≤ occurs n (children xs)
+  kids-two [] p q d = omega (arith, kids-none n)
+  kids-two (x ∷ xs) zero zero d = absurd (d refl)
+  kids-two (x ∷ xs) zero (suc q) d = omega (arith, kids-cons n x xs, kids-one xs q)
+  kids-two (x ∷ xs) (suc p) zero d = omega (arith, kids-cons n x xs, kids-one xs p)
+  kids-two (x ∷ xs) (suc p) (suc q) d = omega (arith, kids-cons n x xs, kids-two xs p q (λ e. d (ap suc e)))
+
+is-one : (c n : ℕ) → c ≡ n → one (eqb c n) ≡ 1
+unfolding one
+is-one c n e = ap one (yes-of (eqb c n) (subst (λ (m : ℕ). T (eqb c m)) e (eqb-refl c)))
+
+-- ---- children and paths
+
+data Side : Type 0 where
+  on-left on-right : Side
+
+child : Side → Node → ℕ
+child on-left x = x .left
+child on-right x = x .right
+
+module _ (xs : List Node) where
+  -- n is the child on side s of node p
+  record Kid (p : ℕ) (s : Side) (n : ℕ) : Type 0 where
+    way : Way
+    join : Join
+    pair : nodeKind (getD xs p noN .kind) ≡ aPair way join
+    is : child s (getD xs p noN) ≡ n
+
+  -- n is a, or below it
+  data Reach (a : ℕ) : ℕ → Type 0 where
+    here : Reach a a
+    up : {p n : ℕ} (s : Side) → Kid p s n → Reach a p → Reach a n
+
+  kid-kids : (n p : ℕ) (s : Side) → Kid p s n → 1 ≤ kids n (getD xs p noN)
+  unfolding child
+  kid-kids n p on-left k = omega (arith, kids-pair n (getD xs p noN) (k .way) (k .join) (k .pair), is-one (getD xs p noN .left) n (k .is))
+  kid-kids n p on-right k = omega (arith, kids-pair n (getD xs p noN) (k .way) (k .join) (k .pair), is-one (getD xs p noN .right) n (k .is))
+
+  module _ (once : (n p : ℕ) (s : Side) → Kid p s n → occurs n (children xs) ≡ 1) (ordered : (n p : ℕ) (s : Side) → Kid p s n → p < n) where
+    same-parent : (n p q : ℕ) (s t : Side) → Kid p s n → Kid q t n → p ≡ q
+    same-parent n p q s t k l = go (eqb p q) refl
+      where
+        go : (b : Bool) → eqb p q ≡ b → p ≡ q
+        go true e = eqb→eq p q (subst T (sym e) tt)
+        go false e =
+            absurd (omega (
+              arith,
+              once n p s k,
+              kid-kids n p s k,
+              kid-kids n q t l,
+              kids-two n xs p q (λ d. subst T e (subst (λ (m : ℕ). T (eqb p m)) d (eqb-refl p))),
+            ))
+
+    not-both : (n p : ℕ) → Kid p on-left n → Kid p on-right n → ⊥
+    unfolding child
+    not-both n p k l =
+        omega (
+          arith,
+          once n p on-left k,
+          kids-one n xs p,
+          kids-pair n (getD xs p noN) (k .way) (k .join) (k .pair),
+          is-one (getD xs p noN .left) n (k .is),
+          is-one (getD xs p noN .right) n (l .is),
+        )
+
+    reach-le : {a n : ℕ} → Reach a n → a ≤ n
+    reach-le {a} here = le-refl a
+    reach-le (up {p = p} {n = n} s k r) = omega (arith, ordered n p s k, reach-le r)
+
+    reach-trans : {a b n : ℕ} → Reach a b → Reach b n → Reach a n
+    reach-trans r here = r
+    reach-trans r (up s k u) = up s k (reach-trans r u)
+
+    comparable : {a b n : ℕ} → Reach a n → Reach b n → Reach a b ⊎ Reach b a
+    comparable here u = inr u
+    comparable (up s k r) here = inl (up s k r)
+    comparable {b = b} (up {p = p} {n = n} s k r) (up {p = q} t l u) = comparable r (subst (λ (x : ℕ). Reach b x) (same-parent n q p t s l k) u)
+
+    -- no path leads from one child of i to the other
+    no-path : (i : ℕ) (s t : Side) {a b : ℕ} → Kid i s a → Kid i t b → (a ≡ b → ⊥) → Reach a b → ⊥
+    no-path i s t k l d here = d refl
+    no-path i s t {a = a} k l d (up {p = p} {n = b} s′ k′ r) = omega (arith, same-parent b i p t s′ l k′, reach-le r, ordered a i s k)
+
+    apart-paths : (i a b n : ℕ) → Kid i on-left a → Kid i on-right b → Reach a n → Reach b n → ⊥
+    apart-paths i a b n k l r u =
+        let d : a ≡ b → ⊥ = λ e. not-both a i k (subst (λ (x : ℕ). Kid i on-right x) (sym e) l) in
+        ⊎-elim (λ w. no-path i on-left on-right k l d w) (λ w. no-path i on-right on-left l k (λ e. d (sym e)) w) (comparable r u)
+
+-- ---- the nodes of the places
+
+placed-node : (xs : List Node) (ss : List Step) (i : ℕ) → nodeIn (placed xs ss) i ≡ getD xs i noN
+unfolding placed
+placed-node [] ss i = refl
+placed-node (x ∷ xs) ss zero = refl
+placed-node (x ∷ xs) ss (suc i) = placed-node xs (drop (owned x) ss) i
+
+pub nodes-length : (file : Bytes) → length (nodes file) ≡ nodeCount file
+unfolding nodes
+nodes-length file = listed-length (λ i. nodeAt file (nodePlace i)) 0 (nodeCount file)
+
+pub same-node : (file : Bytes) (i : ℕ) → nodeIn (places file) i ≡ getD (nodes file) i noN
+unfolding places
+same-node file i = placed-node (nodes file) (map stepOf (rows file)) i
+
+-- a place's node is the record that the file holds there
+pub node-in : (file : Bytes) (i : ℕ) → i < nodeCount file → nodeIn (places file) i ≡ nodeAt file (nodePlace i)
+unfolding nodes
+node-in file i h = same-node file i ∙ listed-at (λ i. nodeAt file (nodePlace i)) 0 (nodeCount file) noN i h ∙ ap (λ (k : ℕ). nodeAt file (nodePlace k)) (omega arith)
+
+-- past the list there are no nodes
+pub node-inside : (xs : List Node) (i : ℕ) → (nodeKind (getD xs i noN .kind) ≡ noNode → ⊥) → i < length xs
+unfolding noPlace nodeKind
+node-inside [] i h = absurd (h refl)
+node-inside (x ∷ xs) zero h = zero-lt-suc (length xs)
+node-inside (x ∷ xs) (suc i) h = omega (arith, node-inside xs i h)
+
+-- ---- rule 5
+
+-- no number is that of two nodes
+unfoldable pub Distinct : Tree → Type 0
+Distinct (leaf i s c code) = Unit {0}
+Distinct (trivial i) = Unit {0}
+Distinct (unsatisfiable i) = Unit {0}
+Distinct (node w j i l r) = Distinct l × Distinct r × Numbered i l r
+
+-- where the children of a pair at i lie, of n nodes
+pub record ChildrenLater (n i : ℕ) (x : Node) : Type 0 where
+  pub left-later : i < x .left
+  pub left-below : x .left < n
+  pub right-later : i < x .right
+  pub right-below : x .right < n
+
+later-pair : (n i : ℕ) (x : Node) (w : Way) (j : Join) → nodeKind (x .kind) ≡ aPair w j → T (later n i x) → ChildrenLater n i x
+unfolding later
+later-pair n i x w j e h =
+    let u : T (ltb i (x .left) && ltb (x .left) n && ltb i (x .right) && ltb (x .right) n) = rw (e, later) at h in
+    let u₁ : T (ltb i (x .left) && ltb (x .left) n && ltb i (x .right)) = and-left (ltb i (x .left) && ltb (x .left) n && ltb i (x .right)) (ltb (x .right) n) u in
+    let u₂ : T (ltb i (x .left) && ltb (x .left) n) = and-left (ltb i (x .left) && ltb (x .left) n) (ltb i (x .right)) u₁ in
+    record {
+      left-later = ltb→lt i (x .left) (and-left (ltb i (x .left)) (ltb (x .left) n) u₂);
+      left-below = ltb→lt (x .left) n (and-right (ltb i (x .left)) (ltb (x .left) n) u₂);
+      right-later = ltb→lt i (x .right) (and-right (ltb i (x .left) && ltb (x .left) n) (ltb i (x .right)) u₁);
+      right-below = ltb→lt (x .right) n (and-right (ltb i (x .left) && ltb (x .left) n && ltb i (x .right)) (ltb (x .right) n) u);
+    }
+
+-- the tree under node i, with the fuel that is enough
+unfoldable pub treeAt : Bytes → ℕ → Tree
+treeAt file i = grown (nodeCount file - i) (places file) i
+
+module _ (file : Bytes) (five : broken5 file ≡ false) where
+  all-later : T (everyAt (later (nodeCount file)) 0 (nodes file))
+  unfolding broken5
+  all-later =
+      not-not (everyAt (later (nodeCount file)) 0 (nodes file))
+      (or-false-left (not (everyAt (later (nodeCount file)) 0 (nodes file))) (not (everyAt (λ i x. oneParent (nodes file) i) 0 (nodes file))) five)
+
+  all-once : T (everyAt (λ i x. oneParent (nodes file) i) 0 (nodes file))
+  unfolding broken5
+  all-once =
+      not-not (everyAt (λ i x. oneParent (nodes file) i) 0 (nodes file))
+      (or-false-right (not (everyAt (later (nodeCount file)) 0 (nodes file))) (not (everyAt (λ i x. oneParent (nodes file) i) 0 (nodes file))) five)
+
+  nodes-later : (p : ℕ) (w : Way) (j : Join) → nodeKind (getD (nodes file) p noN .kind) ≡ aPair w j → ChildrenLater (nodeCount file) p (getD (nodes file) p noN)
+  nodes-later p w j e =
+      later-pair (nodeCount file) p (getD (nodes file) p noN) w j e
+      (everyAt-from-0 (later (nodeCount file)) (nodes file) noN all-later p (node-inside (nodes file) p (λ n. let z : _≡_ {A = ℕ} 0 1 = cc in omega arith)))
+
+  -- "A child's number is greater than its parent's and less than n"
+  pub children-later : (i : ℕ) (w : Way) (j : Join) → kindIn (places file) i ≡ aPair w j → ChildrenLater (nodeCount file) i (nodeIn (places file) i)
+  children-later i w j e =
+      subst (λ (x : Node). ChildrenLater (nodeCount file) i x) (sym (same-node file i))
+      (nodes-later i w j (subst (λ (x : Node). nodeKind (x .kind) ≡ aPair w j) (same-node file i) e))
+
+  ordered : (n p : ℕ) (s : Side) → Kid (nodes file) p s n → p < n
+  unfolding child
+  ordered n p on-left k = omega (arith, nodes-later p (k .way) (k .join) (k .pair) .left-later, k .is)
+  ordered n p on-right k = omega (arith, nodes-later p (k .way) (k .join) (k .pair) .right-later, k .is)
+
+  below : (n p : ℕ) (s : Side) → Kid (nodes file) p s n → n < nodeCount file
+  unfolding child
+  below n p on-left k = omega (arith, nodes-later p (k .way) (k .join) (k .pair) .left-below, k .is)
+  below n p on-right k = omega (arith, nodes-later p (k .way) (k .join) (k .pair) .right-below, k .is)
+
+  once : (n p : ℕ) (s : Side) → Kid (nodes file) p s n → occurs n (children (nodes file)) ≡ 1
+  unfolding oneParent
+  once n p s k =
+      let l : n < length (nodes file) = omega (arith, below n p s k, nodes-length file) in
+      ⊎-elim (λ z. absurd (omega (arith, eqb→eq n 0 z, ordered n p s k))) (λ u. eqb→eq (occurs n (children (nodes file))) 1 u)
+      (or-cases (eqb n 0) (eqb (occurs n (children (nodes file))) 1)
+      (everyAt-from-0 (λ i x. oneParent (nodes file) i) (nodes file) noN all-once n l))
+
+  kid-of : (i : ℕ) (s : Side) (w : Way) (j : Join) → kindIn (places file) i ≡ aPair w j → Kid (nodes file) i s (child s (nodeIn (places file) i))
+  kid-of i s w j e =
+      record {
+        way = w;
+        join = j;
+        pair = subst (λ (x : Node). nodeKind (x .kind) ≡ aPair w j) (same-node file i) e;
+        is = sym (ap (λ (x : Node). child s x) (same-node file i));
+      }
+
+  -- what the tree of node i holds is reached from i
+  Under : ℕ → Tree → Type 0
+  Under i t = (n : ℕ) → T (holds t n) → Reach (nodes file) i n
+
+  under-one : (i n : ℕ) → T (eqb i n) → Reach (nodes file) i n
+  under-one i n h = subst (λ (x : ℕ). Reach (nodes file) i x) (eqb→eq i n h) here
+
+  under-pair : (w : Way) (j : Join) (i : ℕ) (l r : Tree) → kindIn (places file) i ≡ aPair w j
+      → Under (nodeIn (places file) i .left) l → Under (nodeIn (places file) i .right) r → Under i (node w j i l r)
+  unfolding Under holds child
+  under-pair w j i l r e x y n h =
+      ⊎-elim (under-one i n)
+      (λ u. ⊎-elim (λ v. reach-trans (nodes file) once ordered (up on-left (kid-of i on-left w j e) here) (x n v))
+      (λ v. reach-trans (nodes file) once ordered (up on-right (kid-of i on-right w j e) here) (y n v)) (or-cases (holds l n) (holds r n) u))
+      (or-cases (eqb i n) (holds l n || holds r n) h)
+
+  under : (fuel i : ℕ) → Under i (grown fuel (places file) i)
+  unfolding Under holds
+  under = grown-is (places file) Under (λ i. under-one i) (λ i. under-one i) (λ i e. under-one i) under-pair
+
+  numbered-over : (i : ℕ) (w : Way) (j : Join) (l r : Tree) → kindIn (places file) i ≡ aPair w j
+      → Under (nodeIn (places file) i .left) l → Under (nodeIn (places file) i .right) r → Numbered i l r
+  unfolding Under Disjoint child
+  numbered-over i w j l r e x y =
+      let a : ℕ = nodeIn (places file) i .left in
+      let b : ℕ = nodeIn (places file) i .right in
+      let c : ChildrenLater (nodeCount file) i (nodeIn (places file) i) = children-later i w j e in
+      record {
+        sides = λ n.
+            ⊎-elim (λ u. ⊎-elim (λ v. absurd (apart-paths (nodes file) once ordered i a b n (kid-of i on-left w j e) (kid-of i on-right w j e) (x n u) (y n v)))
+            (λ v. inr v) (bool-cases (holds r n))) (λ u. inl u) (bool-cases (holds l n));
+        not-left = no-of (holds l i) (λ u. omega (arith, reach-le (nodes file) once ordered (x i u), c .left-later));
+        not-right = no-of (holds r i) (λ u. omega (arith, reach-le (nodes file) once ordered (y i u), c .right-later));
+      }
+
+  -- Both sides of a pair hold other numbers than the pair and than each other.
+  pub numbered : (fuel i : ℕ) (w : Way) (j : Join) → kindIn (places file) i ≡ aPair w j
+      → Numbered i (grown fuel (places file) (nodeIn (places file) i .left)) (grown fuel (places file) (nodeIn (places file) i .right))
+  numbered fuel i w j e =
+      let a : ℕ = nodeIn (places file) i .left in
+      let b : ℕ = nodeIn (places file) i .right in
+      numbered-over i w j (grown fuel (places file) a) (grown fuel (places file) b) e (under fuel a) (under fuel b)
+
+  -- the same of the whole tree
+  pub distinct : Distinct (tree file)
+  unfolding tree Distinct Under holds
+  distinct =
+      grown-is (places file) (λ i t. Under i t × Distinct t) (λ i. (under-one i, tt)) (λ i. (under-one i, tt)) (λ i e. (under-one i, tt))
+      (λ w j i l r e x y. (under-pair w j i l r e (x .0) (y .0), (x .1, y .1, numbered-over i w j l r e (x .0) (y .0))))
+      (nodeCount file) 0 .1
+
+  -- every number that is reached from a node of the file is a node of the file
+  reach-below : {a n : ℕ} → Reach (nodes file) a n → a < nodeCount file → n < nodeCount file
+  reach-below here h = h
+  reach-below (up {p = p} {n = n} s k r) h = below n p s k
+
+  pub numbers-below : 1 ≤ nodeCount file → (k : ℕ) → T (holds (tree file) k) → k < nodeCount file
+  unfolding tree Under
+  numbers-below h k u = reach-below (under (nodeCount file) 0 k u) h
+
+  -- ---- the fuel
+
+  -- The fuel of `tree` does not run out: more fuel than there are nodes from i on gives the same tree.
+  pub grown-enough : (fuel i : ℕ) → i < nodeCount file → nodeCount file ≤ fuel + i → grown (suc fuel) (places file) i ≡ grown fuel (places file) i
+  grown-enough zero i h l = absurd (omega arith)
+  grown-enough (suc fuel) i h l =
+      let a : ℕ = nodeIn (places file) i .left in
+      let b : ℕ = nodeIn (places file) i .right in
+      grown-suc (places file) (suc fuel) i
+      ∙ shaped-same (kindIn (places file) i) i (placeIn (places file) i)
+      (grown (suc fuel) (places file) a) (grown fuel (places file) a) (grown (suc fuel) (places file) b) (grown fuel (places file) b)
+      (λ w j e. (
+        grown-enough fuel a (children-later i w j e .left-below) (omega (arith, children-later i w j e .left-later)),
+        grown-enough fuel b (children-later i w j e .right-below) (omega (arith, children-later i w j e .right-later)),
+      ))
+      ∙ sym (grown-suc (places file) fuel i)
+
+  grown-more : (d fuel i : ℕ) → i < nodeCount file → nodeCount file ≤ fuel + i → grown (d + fuel) (places file) i ≡ grown fuel (places file) i
+  grown-more zero fuel i h l = ap (λ (n : ℕ). grown n (places file) i) (omega arith)
+  grown-more (suc d) fuel i h l =
+      let z : suc d + fuel ≡ suc (d + fuel) = omega arith in
+      ap (λ (n : ℕ). grown n (places file) i) z ∙ grown-enough (d + fuel) i h (omega arith) ∙ grown-more d fuel i h l
+
+  grown-tree : (fuel i : ℕ) → i < nodeCount file → nodeCount file ≤ fuel + i → grown fuel (places file) i ≡ treeAt file i
+  unfolding treeAt
+  grown-tree fuel i h l =
+      let z : fuel ≡ (fuel - (nodeCount file - i)) + (nodeCount file - i) = omega arith in
+      ap (λ (n : ℕ). grown n (places file) i) z ∙ grown-more (fuel - (nodeCount file - i)) (nodeCount file - i) i h (omega arith)
+
+  -- One step down the tree, with no fuel to be seen.
+  pub tree-at : (i : ℕ) → i < nodeCount file
+      → treeAt file i ≡ shaped (kindIn (places file) i) i (placeIn (places file) i) (treeAt file (nodeIn (places file) i .left)) (treeAt file (nodeIn (places file) i .right))
+  tree-at i h =
+      let a : ℕ = nodeIn (places file) i .left in
+      let b : ℕ = nodeIn (places file) i .right in
+      let fuel : ℕ = nodeCount file - suc i in
+      sym (grown-tree (suc fuel) i h (omega arith)) ∙ grown-suc (places file) fuel i
+      ∙ shaped-same (kindIn (places file) i) i (placeIn (places file) i)
+      (grown fuel (places file) a) (treeAt file a) (grown fuel (places file) b) (treeAt file b)
+      (λ w j e. (
+        grown-tree fuel a (children-later i w j e .left-below) (omega (arith, children-later i w j e .left-later)),
+        grown-tree fuel b (children-later i w j e .right-below) (omega (arith, children-later i w j e .right-later)),
+      ))
+
+-- `tree` is the one at node 0
+pub tree-top : (file : Bytes) → tree file ≡ treeAt file 0
+unfolding tree treeAt
+tree-top file = ap (λ (n : ℕ). grown n (places file) 0) (omega arith)

@@ -1,0 +1,11 @@
+pub mod Layout
+pub mod Children
+pub mod Leaves
+pub mod Targets
+pub mod Modes
+pub mod Possible
+pub mod Interference
+pub mod Spread
+pub mod Check
+pub mod Opened
+pub mod Examples
