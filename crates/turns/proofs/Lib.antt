@@ -1,0 +1,16 @@
+pub mod Rest
+pub mod Safe
+pub mod Cells
+pub mod Fits
+pub mod Fine
+pub mod States
+pub mod Walk
+pub mod Fuel
+pub mod Count
+pub mod Spread
+pub mod Steps
+pub mod Throughout
+pub mod Answered
+pub mod Lasting
+pub mod Bounds
+pub mod Worked
