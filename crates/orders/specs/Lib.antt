@@ -1,0 +1,3 @@
+pub mod Orders
+pub mod Demand
+pub mod Premise

@@ -1,0 +1,1 @@
+// Theorems only: the third demand, stated in specs/ and proved in proofs/.
