@@ -1,3 +1,5 @@
 pub mod ListLaws
 pub mod ByteLaws
 pub mod NumberLaws
+pub mod EveryLoop
+pub mod Tested

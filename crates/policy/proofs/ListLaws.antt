@@ -57,14 +57,14 @@ module _ {A : Type 0} where
 
   -- ---- what is left of a test over f i, f (i + 1), .. below f n: a loop that counts up carries it along
 
-  listed-rest : (f : ℕ → A) (i n : ℕ) → i < n → listed f i (n - i) ≡ f i ∷ listed f (i + 1) (n - (i + 1))
+  pub listed-rest : (f : ℕ → A) (i n : ℕ) → i < n → listed f i (n - i) ≡ f i ∷ listed f (i + 1) (n - (i + 1))
   unfolding listed
   listed-rest f i n h =
       let e : n - i ≡ suc (n - (i + 1)) = omega arith in
       let z : suc i ≡ i + 1 = omega arith in
       ap (λ (k : ℕ). listed f i k) e ∙ ap (λ (k : ℕ). f i ∷ listed f k (n - (i + 1))) z
 
-  listed-over : (f : ℕ → A) (i n : ℕ) → n ≤ i → listed f i (n - i) ≡ []
+  pub listed-over : (f : ℕ → A) (i n : ℕ) → n ≤ i → listed f i (n - i) ≡ []
   unfolding listed
   listed-over f i n h = let e : n - i ≡ 0 = omega arith in ap (λ (k : ℕ). listed f i k) e
 

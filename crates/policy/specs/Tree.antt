@@ -1,5 +1,5 @@
 -- The policy that a file holds: a tree of nodes, each leaf with its steps. Assumes nothing.
-use Prim.Native.Nat.{ℕ, zero, suc}
+use Prim.Native.Nat.{ℕ, zero, suc, _-_}
 use mathlib.Core.List.{List, [], _∷_, map}
 use lib.ListN.{getD, take, drop}
 use Rattle.actions.specs.Sets.{ActionSet, EMPTY, union}
@@ -74,6 +74,10 @@ grown (suc fuel) ps i = let p = getD ps i noPlace in elim (nodeKind (p .node .ki
 -- "Tree: node 0 is the root." A child's number is greater than its parent's, so the number of nodes bounds the height.
 unfoldable pub tree : Bytes → Tree
 tree file = grown (nodeCount file) (places file) 0
+
+-- the tree under any node
+unfoldable pub treeAt : Bytes → ℕ → Tree
+treeAt file i = grown (nodeCount file - i) (places file) i
 
 -- "Kinds 2 and 3 have empty sets. Kinds 4 to 7: regulated set is the union of the two regulated sets".
 unfoldable pub regulated : Tree → ActionSet

@@ -15,7 +15,7 @@ use Rattle.policy.specs.Bytes.{Bytes}
 use Rattle.policy.specs.Lists.{one, occurs, everyAt}
 use Rattle.policy.specs.Records.{Node, nodeAt, nodePlace, nodeCount, nodes, rows}
 use Rattle.policy.specs.Steps.{Step, stepOf}
-use Rattle.policy.specs.Tree.{Way, Join, NodeKind, aLeaf, aTrivial, anUnsatisfiable, aPair, noNode, nodeKind, owned, noPlace, placed, places, Tree, leaf, trivial, unsatisfiable, node, grown, tree}
+use Rattle.policy.specs.Tree.{Way, Join, NodeKind, aLeaf, aTrivial, anUnsatisfiable, aPair, noNode, nodeKind, owned, noPlace, placed, places, Tree, leaf, trivial, unsatisfiable, node, grown, treeAt, tree}
 use Rattle.rules.specs.Children.{later, children, oneParent, broken5}
 use Rattle.rules.proofs.Lawful.{holds, Disjoint, Numbered}
 use Rattle.rules.proofs.Grown.{placeIn, nodeIn, kindIn, shaped, shaped-same, grown-suc, grown-is}
@@ -27,10 +27,10 @@ abbrev pub noN : Node
 noN = noPlace .node
 
 -- how often n is a child of x
-kids : ℕ → Node → ℕ
+unfoldable pub kids : ℕ → Node → ℕ
 kids n x = occurs n (children (x ∷ []))
 
-kids-cons : (n : ℕ) (x : Node) (xs : List Node) → occurs n (children (x ∷ xs)) ≡ kids n x + occurs n (children xs)
+pub kids-cons : (n : ℕ) (x : Node) (xs : List Node) → occurs n (children (x ∷ xs)) ≡ kids n x + occurs n (children xs)
 unfolding kids children occurs
 kids-cons n x xs = by (nodeKind (x .kind)) refl
   where
@@ -41,7 +41,7 @@ kids-cons n x xs = by (nodeKind (x .kind)) refl
     by noNode e = rw (e, children) (omega arith)
     by (aPair w j) e = rw (e, children) (omega arith)
 
-kids-pair : (n : ℕ) (x : Node) (w : Way) (j : Join) → nodeKind (x .kind) ≡ aPair w j → kids n x ≡ one (eqb (x .left) n) + one (eqb (x .right) n)
+pub kids-pair : (n : ℕ) (x : Node) (w : Way) (j : Join) → nodeKind (x .kind) ≡ aPair w j → kids n x ≡ one (eqb (x .left) n) + one (eqb (x .right) n)
 unfolding kids children occurs
 kids-pair n x w j e = rw (e, children) (omega arith)
 
@@ -199,10 +199,6 @@ later-pair n i x w j e h =
       right-later = ltb→lt i (x .right) (and-right (ltb i (x .left) && ltb (x .left) n) (ltb i (x .right)) u₁);
       right-below = ltb→lt (x .right) n (and-right (ltb i (x .left) && ltb (x .left) n && ltb i (x .right)) (ltb (x .right) n) u);
     }
-
--- the tree under node i, with the fuel that is enough
-unfoldable pub treeAt : Bytes → ℕ → Tree
-treeAt file i = grown (nodeCount file - i) (places file) i
 
 module _ (file : Bytes) (five : broken5 file ≡ false) where
   all-later : T (everyAt (later (nodeCount file)) 0 (nodes file))

@@ -1,0 +1,173 @@
+// Reading the policy where the caller keeps it: big-endian numbers, the fields of its records, and a step as an enum. No record is
+// copied. Each function asks that what it reads is inside the slice, which rule 3 gives of every record.
+ghost use mathlib.Core.Path.{_≡_};
+ghost use Prim.Native.Nat.{_+_, _*_, _≤_, _<_};
+ghost use lib.ListN.{length};
+ghost use Rattle.policy.specs.Bytes.{number};
+ghost use Rattle.policy.specs.Records.{nodeSize, stepSize, nodePlace, nodeAt, rowAt};
+ghost use Rattle.policy.specs.Steps.{stepOf};
+ghost use Rattle.policy.specs.Tree.{nodeKind};
+ghost use Rattle.reading.specs.Kinds.{kindOf, stepMeant};
+use actions::ActionSet;
+
+pub fn byte(s: &[u8], at: usize) -> u8
+    requires { ⌜ at < length (now s) ⌝ }
+    ensures { λ r. ⌜ r ≡ number (now (s .entry)) at 1 ⌝ }
+{
+    s[at]
+}
+
+fn wide(x: u8) -> u64
+    ensures { λ r. ⌜ (r ≡ x) × (r < 256) ⌝ }
+{
+    x as u64
+}
+
+pub fn word16(s: &[u8], at: usize) -> u64
+    requires { ⌜ at + 2 ≤ length (now s) ⌝ }
+    ensures { λ r. ⌜ (r ≡ number (now (s .entry)) at 2) × (r < 65536) ⌝ }
+{
+    wide(byte(s, at)) * 256 + wide(byte(s, at + 1))
+}
+
+pub fn word32(s: &[u8], at: usize) -> u64
+    requires { ⌜ at + 4 ≤ length (now s) ⌝ }
+    ensures { λ r. ⌜ (r ≡ number (now (s .entry)) at 4) × (r < 4294967296) ⌝ }
+{
+    word16(s, at) * 65536 + word16(s, at + 2)
+}
+
+pub fn word64(s: &[u8], at: usize) -> u64
+    requires { ⌜ at + 8 ≤ length (now s) ⌝ }
+    ensures { λ r. ⌜ r ≡ number (now (s .entry)) at 8 ⌝ }
+{
+    word32(s, at) * 4294967296 + word32(s, at + 4)
+}
+
+// ---- nodes
+
+pub enum Way {
+    Parallel,
+    Sequential,
+}
+
+pub enum Join {
+    And,
+    Or,
+}
+
+pub enum Kind {
+    Leaf,
+    Trivial,
+    Unsatisfiable,
+    Pair(Way, Join),
+    Unknown,
+}
+
+// Where node i's record begins.
+pub fn node_place(i: usize) -> usize
+    requires { ⌜ i ≤ 255 ⌝ }
+    ensures { λ r. ⌜ r ≡ nodePlace i ⌝ }
+{
+    6 + 16 * i
+}
+
+pub fn node_kind(policy: &[u8], at: usize) -> Kind
+    requires { ⌜ at + nodeSize ≤ length (now policy) ⌝ }
+    ensures { λ r. ⌜ kindOf r ≡ nodeKind (nodeAt (now (policy .entry)) at .kind) ⌝ }
+{
+    let k = byte(policy, at);
+    match k {
+        1 => Kind::Leaf,
+        2 => Kind::Trivial,
+        3 => Kind::Unsatisfiable,
+        4 => Kind::Pair(Way::Parallel, Join::And),
+        5 => Kind::Pair(Way::Sequential, Join::And),
+        6 => Kind::Pair(Way::Parallel, Join::Or),
+        7 => Kind::Pair(Way::Sequential, Join::Or),
+        _ => Kind::Unknown,
+    }
+}
+
+pub fn node_left(policy: &[u8], at: usize) -> u8
+    requires { ⌜ at + nodeSize ≤ length (now policy) ⌝ }
+    ensures { λ r. ⌜ r ≡ nodeAt (now (policy .entry)) at .left ⌝ }
+{
+    byte(policy, at + 1)
+}
+
+pub fn node_right(policy: &[u8], at: usize) -> u8
+    requires { ⌜ at + nodeSize ≤ length (now policy) ⌝ }
+    ensures { λ r. ⌜ r ≡ nodeAt (now (policy .entry)) at .right ⌝ }
+{
+    byte(policy, at + 2)
+}
+
+pub fn node_count(policy: &[u8], at: usize) -> u8
+    requires { ⌜ at + nodeSize ≤ length (now policy) ⌝ }
+    ensures { λ r. ⌜ r ≡ nodeAt (now (policy .entry)) at .count ⌝ }
+{
+    byte(policy, at + 3)
+}
+
+pub fn node_start(policy: &[u8], at: usize) -> u64
+    requires { ⌜ at + nodeSize ≤ length (now policy) ⌝ }
+    ensures { λ r. ⌜ (r ≡ nodeAt (now (policy .entry)) at .start) × (r < 4294967296) ⌝ }
+{
+    word32(policy, at + 4)
+}
+
+pub fn node_set(policy: &[u8], at: usize) -> ActionSet
+    requires { ⌜ at + nodeSize ≤ length (now policy) ⌝ }
+    ensures { λ r. ⌜ r .bits ≡ nodeAt (now (policy .entry)) at .set ⌝ }
+{
+    ActionSet {
+        bits: word64(policy, at + 8),
+    }
+}
+
+// ---- steps
+
+// What a step works with.
+pub enum Operand {
+    Action(u8),
+    Set(ActionSet),
+    Amount(u64),
+}
+
+// A step holds its kind, and with it where it goes on.
+pub enum Step {
+    Next(u8, u8),
+    Ok(u8),
+    Sup(u8),
+    Ins(Operand, u8),
+    Acase(Operand, u8, u8),
+    Spend(Operand, u8, u8),
+    End,
+    Halt,
+}
+
+pub fn step_at(policy: &[u8], at: usize) -> Step
+    requires { ⌜ at + stepSize ≤ length (now policy) ⌝ }
+    ensures { λ r. ⌜ stepMeant r ≡ stepOf (rowAt (now (policy .entry)) at) ⌝ }
+{
+    let k = byte(policy, at);
+    let first = byte(policy, at + 2);
+    let second = byte(policy, at + 3);
+    match k {
+        1 => Step::Next(first, second),
+        2 => Step::Ok(first),
+        3 => Step::Sup(first),
+        4 => Step::Ins(Operand::Action(byte(policy, at + 1)), first),
+        5 => Step::Acase(
+            Operand::Set(ActionSet {
+                bits: word64(policy, at + 4),
+            }),
+            first,
+            second,
+        ),
+        6 => Step::Spend(Operand::Amount(word64(policy, at + 4)), first, second),
+        7 => Step::End,
+        _ => Step::Halt,
+    }
+}
