@@ -1,0 +1,115 @@
+-- The rules in order: the answer at the first that is broken, and the answer where none is. Assumes nothing.
+use Prim.Native.Nat.{ℕ, _≤_}
+use mathlib.Core.Path.{_≡_, refl, sym, _∙_, ap₂, subst}
+use mathlib.Core.Bool.{Bool, true, false, not}
+use mathlib.Core.List.{List}
+use lib.Dec.{T, eqb, ltb, nltb→le}
+use lib.ListN.{length, getD}
+use Rattle.actions.specs.Sets.{ActionSet}
+use Rattle.actions.proofs.Tests.{or-false-left}
+use Rattle.policy.specs.Bytes.{Bytes, number}
+use Rattle.policy.specs.Records.{nodeCount, stepCount, lengthField}
+use Rattle.policy.specs.Tree.{regulated, tree}
+use Rattle.rules.specs.Layout.{broken1, broken2, broken3, broken4}
+use Rattle.rules.specs.Children.{broken5}
+use Rattle.rules.specs.Targets.{broken6}
+use Rattle.rules.specs.Modes.{broken7}
+use Rattle.rules.specs.Possible.{broken8}
+use Rattle.rules.specs.Interference.{effects, broken9}
+use Rattle.rules.specs.Spread.{broken10}
+use Rattle.rules.specs.Check.{passes, refused, rules, check}
+use Rattle.rules.proofs.Passed.{Lowest, here, after, lowest-refused, passes-all}
+use Rattle.records.specs.Frame.{Framed}
+use Rattle.records.proofs.Frame.{framed}
+use Rattle.checking.specs.Kept.{FrontKept, LeavesKept}
+use Rattle.checking.specs.Sets.{Treed, RegulatedFrom, EffectsFrom}
+use Rattle.checking.proofs.NodeSets.{top-is}
+
+module _ (file : Bytes) where
+  -- a test's outcome, from the function that made it
+  pub found : {b r : Bool} (p : Bool) → r ≡ p → r ≡ b → p ≡ b
+  found p e f = sym e ∙ f
+
+  pub long-enough : broken1 file ≡ false → 6 ≤ length file
+  unfolding broken1
+  long-enough e =
+      nltb→le (length file) 6
+      (subst (λ (b : Bool). T (not b)) (sym (or-false-left (ltb (length file) 6) (not (eqb (lengthField file) (length file))) e)) tt)
+
+  pub front-kept : broken1 file ≡ false → broken2 file ≡ false → broken3 file ≡ false → (n m : ℕ) → n ≡ number file 3 1 → m ≡ number file 4 2 → FrontKept file n m
+  unfolding nodeCount stepCount
+  front-kept a b c n m e f = record {
+    frame = subst (λ (k : ℕ). Framed file k m) (sym e) (subst (λ (k : ℕ). Framed file (number file 3 1) k) (sym f) (framed file c));
+    one = a;
+    two = b;
+    three = c;
+  }
+
+  pub refused-1 : broken1 file ≡ true → refused 1 ≡ check file
+  unfolding rules
+  refused-1 e = sym (lowest-refused file 1 (here e refl))
+
+  pub refused-2 : broken1 file ≡ false → broken2 file ≡ true → refused 2 ≡ check file
+  unfolding rules
+  refused-2 a e = sym (lowest-refused file 2 (after a (here e refl)))
+
+  pub refused-3 : broken1 file ≡ false → broken2 file ≡ false → broken3 file ≡ true → refused 3 ≡ check file
+  unfolding rules
+  refused-3 a b e = sym (lowest-refused file 3 (after a (after b (here e refl))))
+
+  module _ {n m : ℕ} (k : FrontKept file n m) where
+    pub refused-4 : broken4 file ≡ true → refused 4 ≡ check file
+    unfolding rules
+    refused-4 e = sym (lowest-refused file 4 (after (k .one) (after (k .two) (after (k .three) (here e refl)))))
+
+    pub refused-5 : broken4 file ≡ false → broken5 file ≡ true → refused 5 ≡ check file
+    unfolding rules
+    refused-5 a e = sym (lowest-refused file 5 (after (k .one) (after (k .two) (after (k .three) (after a (here e refl))))))
+
+    pub refused-6 : broken4 file ≡ false → broken5 file ≡ false → broken6 file ≡ true → refused 6 ≡ check file
+    unfolding rules
+    refused-6 a b e = sym (lowest-refused file 6 (after (k .one) (after (k .two) (after (k .three) (after a (after b (here e refl)))))))
+
+    pub refused-7 : broken4 file ≡ false → broken5 file ≡ false → broken6 file ≡ false → broken7 file ≡ true → refused 7 ≡ check file
+    unfolding rules
+    refused-7 a b c e = sym (lowest-refused file 7 (after (k .one) (after (k .two) (after (k .three) (after a (after b (after c (here e refl))))))))
+
+    pub refused-8 : broken4 file ≡ false → broken5 file ≡ false → broken6 file ≡ false → broken7 file ≡ false → broken8 file ≡ true → refused 8 ≡ check file
+    unfolding rules
+    refused-8 a b c d e =
+        sym (lowest-refused file 8 (after (k .one) (after (k .two) (after (k .three) (after a (after b (after c (after d (here e refl)))))))))
+
+  module _ {n m : ℕ} (k : LeavesKept file n m) where
+    pub treed : Treed file n m
+    treed = record { frame = k .front .frame; four = k .four; five = k .five; six = k .six }
+
+    pub refused-9 : broken9 file ≡ true → refused 9 ≡ check file
+    unfolding rules
+    refused-9 e =
+        sym (lowest-refused file 9
+        (after (k .front .one) (after (k .front .two) (after (k .front .three) (after (k .four) (after (k .five)
+        (after (k .six) (after (k .seven) (after (k .eight) (here e refl))))))))))
+
+    pub refused-10 : broken9 file ≡ false → broken10 file ≡ true → refused 10 ≡ check file
+    unfolding rules
+    refused-10 a e =
+        sym (lowest-refused file 10
+        (after (k .front .one) (after (k .front .two) (after (k .front .three) (after (k .four) (after (k .five)
+        (after (k .six) (after (k .seven) (after (k .eight) (after a (here e refl)))))))))))
+
+    pub all-kept : broken9 file ≡ false → broken10 file ≡ false → (regs effs : List ℕ) → RegulatedFrom file 0 n regs → EffectsFrom file 0 n effs
+        → passes (getD regs 0 0) (getD effs 0 0) ≡ check file
+    all-kept a b regs effs r e =
+        ap₂ passes (top-is regulated (k .front .frame) r) (top-is effects (k .front .frame) e)
+        ∙ sym (passes-all file (record {
+          kept1 = k .front .one;
+          kept2 = k .front .two;
+          kept3 = k .front .three;
+          kept4 = k .four;
+          kept5 = k .five;
+          kept6 = k .six;
+          kept7 = k .seven;
+          kept8 = k .eight;
+          kept9 = a;
+          kept10 = b;
+        }))

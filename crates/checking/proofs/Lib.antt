@@ -1,0 +1,5 @@
+pub mod TargetLaws
+pub mod LeafLaws
+mod NodeSets
+mod SpreadLaws
+mod InOrder

@@ -1,0 +1,6 @@
+pub mod Answers
+pub mod First
+pub mod Before
+pub mod Sets
+pub mod Spreads
+pub mod Kept

@@ -1,0 +1,4 @@
+mod Table
+mod Marks
+mod ModeSteps
+mod ModeWalk

@@ -1,0 +1,58 @@
+-- Rules 1 to 4 by the values that the code has read: a record's fields one by one, each with the equation that it was read by.
+-- Assumes nothing.
+use Prim.Native.Nat.{ℕ, zero, suc, _+_, _*_, _≤_, _<_}
+use borrow.Author.Tests.{lt-ltb, le-ltb}
+use mathlib.Core.Path.{_≡_, refl, sym, ap, ap₂}
+use mathlib.Core.Bool.{Bool, true, false, _&&_, _||_, not}
+use lib.Dec.{eqb, leb}
+use lib.ListN.{length}
+use Rattle.policy.specs.Bytes.{Bytes, number}
+use Rattle.policy.specs.Records.{Node, Row, lengthField, nodeCount, stepCount, rowAt, nodePlace, rowPlace}
+use Rattle.policy.specs.Tree.{NodeKind, nodeKind}
+use Rattle.rules.specs.Layout.{broken1, broken3, nodeFits, rowFits}
+
+pub front-short : (file : Bytes) → length file < 6 → true ≡ broken1 file
+unfolding broken1
+front-short file h = sym (ap (λ (b : Bool). b || not (eqb (lengthField file) (length file))) (lt-ltb (length file) 6 h))
+
+pub front-read : (file : Bytes) (n : ℕ) → 6 ≤ length file → n ≡ number file 0 2 → not (eqb n (length file)) ≡ broken1 file
+unfolding broken1 lengthField
+front-read file n h p = ap₂ (λ (b : Bool) (x : ℕ). b || not (eqb x (length file))) (sym (le-ltb (length file) 6 h)) p
+
+pub counts-read : (file : Bytes) (n m : ℕ) → n ≡ number file 3 1 → m ≡ number file 4 2
+    → (not (leb 1 n && leb n 31 && leb m 512) || not (eqb (length file) (6 + 16 * n + 12 * m))) ≡ broken3 file
+unfolding broken3 rowPlace nodePlace nodeCount stepCount
+counts-read file n m p q =
+    ap₂ (λ (x : ℕ) (y : ℕ). not (leb 1 x && leb x 31 && leb y 512) || not (eqb (length file) (6 + 16 * x + 12 * y))) p q
+
+-- the node with its own kind, and with what was read for its other fields
+abbrev pub nodeOf : Node → (left right count start set : ℕ) → Node
+nodeOf x l r c s t = record { kind = x .kind; left = l; right = r; count = c; start = s; set = t }
+
+pub node-read : (x : Node) (k : NodeKind) (l r c s t : ℕ) → k ≡ nodeKind (x .kind) → l ≡ x .left → r ≡ x .right → c ≡ x .count → s ≡ x .start → t ≡ x .set
+    → nodeFits k (nodeOf x l r c s t) ≡ nodeFits (nodeKind (x .kind)) x
+node-read x k l r c s t p q u v w y = λ i. nodeFits (p i) (nodeOf x (q i) (u i) (v i) (w i) (y i))
+
+abbrev pub rowOf : (kind action first second operand : ℕ) → Row
+rowOf k a f s o = record { kind = k; action = a; first = f; second = s; operand = o }
+
+pub row-read : (file : Bytes) (at k a f s o : ℕ)
+    → k ≡ number file at 1 → a ≡ number file (at + 1) 1 → f ≡ number file (at + 2) 1 → s ≡ number file (at + 3) 1 → o ≡ number file (at + 4) 8
+    → rowFits (rowOf k a f s o) ≡ rowFits (rowAt file at)
+unfolding rowAt
+row-read file at k a f s o p q u v w = λ i. rowFits (rowOf (p i) (q i) (u i) (v i) (w i))
+
+-- no step has kind 0, or a kind above 8
+pub no-row : (k a f s o : ℕ) → (k ≡ 1 → ⊥) → (k ≡ 2 → ⊥) → (k ≡ 3 → ⊥) → (k ≡ 4 → ⊥) → (k ≡ 5 → ⊥) → (k ≡ 6 → ⊥) → (k ≡ 7 → ⊥) → (k ≡ 8 → ⊥)
+    → rowFits (rowOf k a f s o) ≡ false
+unfolding rowFits
+no-row zero _ _ _ _ p q r s t u v w = refl
+no-row (suc zero) _ _ _ _ p q r s t u v w = absurd (p refl)
+no-row (suc (suc zero)) _ _ _ _ p q r s t u v w = absurd (q refl)
+no-row (suc (suc (suc zero))) _ _ _ _ p q r s t u v w = absurd (r refl)
+no-row (suc (suc (suc (suc zero)))) _ _ _ _ p q r s t u v w = absurd (s refl)
+no-row (suc (suc (suc (suc (suc zero))))) _ _ _ _ p q r s t u v w = absurd (t refl)
+no-row (suc (suc (suc (suc (suc (suc zero)))))) _ _ _ _ p q r s t u v w = absurd (u refl)
+no-row (suc (suc (suc (suc (suc (suc (suc zero))))))) _ _ _ _ p q r s t u v w = absurd (v refl)
+no-row (suc (suc (suc (suc (suc (suc (suc (suc zero)))))))) _ _ _ _ p q r s t u v w = absurd (w refl)
+no-row (suc (suc (suc (suc (suc (suc (suc (suc (suc k))))))))) _ _ _ _ p q r s t u v w = refl

@@ -1,0 +1,45 @@
+-- What a framed file gives: its counts, that every record lies inside it, and its lists of records by the two counts. Assumes nothing.
+use Prim.Native.Nat.{ℕ, _+_, _*_, _≤_, _<_}
+use native.Mathlib.Omega.{arith}
+use mathlib.Core.Path.{_≡_, refl, sym, ap, _∙_}
+use mathlib.Core.Bool.{false}
+use lib.ListN.{length}
+use Rattle.policy.specs.Bytes.{Bytes}
+use Rattle.policy.specs.Lists.{listed}
+use Rattle.policy.specs.Records.{nodeSize, stepSize, nodeCount, stepCount, nodeAt, rowAt, nodePlace, rowPlace, nodes, rows}
+use Rattle.rules.specs.Layout.{broken3}
+use Rattle.rules.proofs.Rows.{CountsFit, counts-fit}
+use Rattle.records.specs.Frame.{Framed}
+
+-- Rule 3 is enough: rules 1 and 2 say nothing of the counts.
+pub framed : (file : Bytes) → broken3 file ≡ false → Framed file (nodeCount file) (stepCount file)
+unfolding rowPlace nodePlace
+framed file three =
+    let f : CountsFit file = counts-fit file three in
+    record { nodes = refl; steps = refl; some-node = f .some-node; few-nodes = f .few-nodes; few-steps = f .few-steps; long = f .long }
+
+pub node-place : (i : ℕ) → nodePlace i ≡ 6 + 16 * i
+unfolding nodePlace
+node-place i = refl
+
+module _ {file : Bytes} {n m : ℕ} (f : Framed file n m) where
+  pub node-inside : (i : ℕ) → i < n → nodePlace i + nodeSize ≤ length file
+  unfolding nodePlace
+  node-inside i h = omega arith
+
+  pub row-inside : (i : ℕ) → i < m → 6 + 16 * n + 12 * i + stepSize ≤ length file
+  row-inside i h = omega arith
+
+  pub row-place : (i : ℕ) → rowPlace file i ≡ 6 + 16 * n + 12 * i
+  unfolding rowPlace nodePlace
+  row-place i = omega arith
+
+  pub node-list : nodes file ≡ listed (λ i. nodeAt file (6 + 16 * i)) 0 n
+  unfolding nodes nodePlace
+  node-list = ap (λ (k : ℕ). listed (λ i. nodeAt file (6 + 16 * i)) 0 k) (sym (f .nodes))
+
+  pub row-list : rows file ≡ listed (λ i. rowAt file (6 + 16 * n + 12 * i)) 0 m
+  unfolding rows rowPlace nodePlace
+  row-list =
+      ap (λ (k : ℕ). listed (λ i. rowAt file (6 + 16 * k + 12 * i)) 0 (stepCount file)) (sym (f .nodes))
+      ∙ ap (λ (k : ℕ). listed (λ i. rowAt file (6 + 16 * n + 12 * i)) 0 k) (sym (f .steps))

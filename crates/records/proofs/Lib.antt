@@ -1,0 +1,3 @@
+pub mod Frame
+mod Fields
+pub mod Counted
