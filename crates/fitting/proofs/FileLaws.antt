@@ -1,0 +1,119 @@
+-- The nodes of a passed policy, from what the code reads of their records. Assumes nothing.
+use Prim.Native.Nat.{ℕ, _+_, _-_, _*_, _≤_, _<_}
+use native.Mathlib.Omega.{arith}
+use mathlib.Core.Path.{_≡_, refl, sym, ap, _∙_, subst}
+use mathlib.Core.Bool.{false, _&&_}
+use mathlib.Core.List.{List, map}
+use lib.Dec.{eqb, leb}
+use lib.ListN.{length, getD, List·getD-eq-default}
+use Rattle.policy.specs.Bytes.{Bytes, number}
+use Rattle.policy.specs.Lists.{summed}
+use Rattle.policy.specs.Records.{nodeSize, Node, nodeCount, stepCount, nodeAt, nodePlace, nodes}
+use Rattle.policy.specs.Steps.{Step, halt, isNext}
+use Rattle.policy.specs.Tree.{Way, Join, NodeKind, aLeaf, aTrivial, anUnsatisfiable, aPair, noNode, nodeKind, owned, places, leaf, trivial, unsatisfiable, node, numberOf}
+use Rattle.rules.proofs.Passed.{Passed}
+use Rattle.rules.proofs.Grown.{placeIn, nodeIn, shaped, grown-is}
+use Rattle.rules.proofs.Numbers.{tree-at, node-in, ChildrenLater, children-later}
+use Rattle.policy.specs.Tree.{treeAt}
+use Rattle.records.specs.Frame.{Framed}
+use Rattle.records.proofs.Frame.{framed, node-inside}
+use Rattle.reading.specs.Code.{codeAt}
+use Rattle.reading.proofs.CodeLaws.{code-length, code-at, next-kind}
+use Rattle.checking.specs.First.{firstStep}
+use Rattle.checking.proofs.LeafLaws.{sum-is, leaf-place, inside-here, Counted, counted}
+use Rattle.turns.specs.Saved.{offsetAt, counterAt, waitsAt}
+
+-- ---- a leaf that waits
+
+module _ (file : Bytes) (at count start : ℕ) (bs : Bytes) (i o : ℕ) (e : o ≡ offsetAt bs i) where
+  abbrev code : List Step
+  code = codeAt file at count
+
+  pub waits-past : count ≤ o → false ≡ waitsAt code start bs i
+  unfolding waitsAt isNext
+  waits-past h =
+      ap (λ (k : Step). isNext k && leb (counterAt bs i) start)
+      (sym (ap (λ (n : ℕ). getD code n halt) (sym e) ∙ List·getD-eq-default code halt (omega (arith, code-length file at count))))
+
+  pub waits-here : (k c : ℕ) → o < count → k ≡ number file (at + 12 * o) 1 → c ≡ counterAt bs i → (eqb k 1 && leb c start) ≡ waitsAt code start bs i
+  unfolding waitsAt
+  waits-here k c h f g =
+      let n : eqb k 1 ≡ isNext (getD code (offsetAt bs i) halt) =
+      ap (λ (x : ℕ). eqb x 1) f ∙ sym (next-kind file (at + 12 * o)) ∙ ap isNext (sym (code-at file at count o h) ∙ ap (λ (x : ℕ). getD code x halt) e) in
+      λ j. n j && leb (g j) start
+
+-- ---- the tree
+
+pub number-at : (file : Bytes) (i : ℕ) → numberOf (treeAt file i) ≡ i
+unfolding treeAt numberOf
+number-at file i = grown-is (places file) (λ k t. numberOf t ≡ k) (λ k. refl) (λ k. refl) (λ k e. refl) (λ w j k l r e x y. refl) _ i
+
+module _ {file : Bytes} (ok : Passed file) where
+  pub frame : Framed file (nodeCount file) (stepCount file)
+  frame = framed file (ok .kept3)
+
+  pub all-steps : summed (map owned (nodes file)) ≡ stepCount file
+  all-steps = sum-is frame (ok .kept6)
+
+  -- node i, whose record begins at `place`
+  module _ (i place : ℕ) (h : i < nodeCount file) (p : place ≡ nodePlace i) where
+    abbrev x : Node
+    x = nodeAt file place
+
+    pub inside : place + nodeSize ≤ length file
+    inside = omega (arith, node-inside frame i h)
+
+    same : nodeIn (places file) i ≡ x
+    same = node-in file i h ∙ ap (nodeAt file) (sym p)
+
+    shape : (k : NodeKind) → k ≡ nodeKind (x .kind) → treeAt file i ≡ shaped k i (placeIn (places file) i) (treeAt file (x .left)) (treeAt file (x .right))
+    shape k e =
+        tree-at file (ok .kept5) i h
+        ∙ λ j. shaped ((ap (λ (y : Node). nodeKind (y .kind)) same ∙ sym e) j) i (placeIn (places file) i) (treeAt file (same j .left)) (treeAt file (same j .right))
+
+    pub is-trivial : aTrivial ≡ nodeKind (x .kind) → treeAt file i ≡ trivial i
+    unfolding shaped
+    is-trivial e = shape aTrivial e
+
+    -- rule 4 knows no such node
+    pub is-none : noNode ≡ nodeKind (x .kind) → treeAt file i ≡ trivial i
+    unfolding shaped
+    is-none e = shape noNode e
+
+    pub is-unsatisfiable : anUnsatisfiable ≡ nodeKind (x .kind) → treeAt file i ≡ unsatisfiable i
+    unfolding shaped
+    is-unsatisfiable e = shape anUnsatisfiable e
+
+    pub is-pair : (w : Way) (j : Join) (left right : ℕ) → aPair w j ≡ nodeKind (x .kind) → left ≡ x .left → right ≡ x .right
+        → treeAt file i ≡ node w j i (treeAt file left) (treeAt file right)
+    unfolding shaped
+    is-pair w j left right e l r = shape (aPair w j) e ∙ λ k. node w j i (treeAt file (sym l k)) (treeAt file (sym r k))
+
+    pub pair-later : (w : Way) (j : Join) → aPair w j ≡ nodeKind (x .kind) → ChildrenLater (nodeCount file) i x
+    pair-later w j e =
+        subst (λ (y : Node). ChildrenLater (nodeCount file) i y) same
+        (children-later file (ok .kept5) i w j (ap (λ (y : Node). nodeKind (y .kind)) same ∙ sym e))
+
+    module _ (count : ℕ) (c : count ≡ x .count) where
+      pub counts : Counted file i count
+      counts = counted frame (ok .kept4) i place count h p c
+
+      -- with its steps from `at` on
+      module _ (at : ℕ) (a : at ≡ 6 + 16 * nodeCount file + 12 * firstStep file i) where
+        pub steps-inside : at + 12 * count ≤ length file
+        steps-inside = inside-here frame (ok .kept4) all-steps i place at count h p a c
+
+        pub is-leaf : (start : ℕ) → aLeaf ≡ nodeKind (x .kind) → start ≡ x .start → treeAt file i ≡ leaf i (x .set) start (codeAt file at count)
+        unfolding shaped
+        is-leaf start e s =
+            let k : nodeKind (nodeAt file (nodePlace i) .kind) ≡ aLeaf = ap (λ (q : ℕ). nodeKind (nodeAt file q .kind)) (sym p) ∙ sym e in
+            let code : placeIn (places file) i .steps ≡ codeAt file at count =
+            leaf-place frame all-steps i h k ∙ λ j. codeAt file (sym a j) ((ap (λ (q : ℕ). nodeAt file q .count) (sym p) ∙ sym c) j) in
+            shape aLeaf e ∙ λ j. leaf i (same j .set) ((ap (λ (y : Node). y .start) same ∙ sym s) j) (code j)
+
+  -- from where the steps of node i begin back to where those of the node before it do
+  pub step-back : (i place count : ℕ) → 1 ≤ i → i ≤ nodeCount file → place ≡ nodePlace (i - 1) → count ≡ nodeAt file place .count
+      → firstStep file i ≡ firstStep file (i - 1) + count
+  step-back i place count l h p c =
+      let z : i ≡ i - 1 + 1 = omega arith in
+      ap (firstStep file) z ∙ counts (i - 1) place (omega arith) p count c .next

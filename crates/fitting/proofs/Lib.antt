@@ -1,0 +1,5 @@
+mod StatusLaws
+mod NodeLaws
+mod FileLaws
+mod ZeroLaws
+mod TreeLaws
