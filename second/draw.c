@@ -1,0 +1,1715 @@
+/* draw.c: "draw SEED COUNT" writes a batch of COUNT guard calls from a fixed-seed generator. */
+#include "guard.h"
+
+#include <stdbool.h>
+#include <stdio.h>
+#include <stdlib.h>
+#include <string.h>
+
+/* ------------------------------------------------------------------ */
+/* Chance: xorshift64*.                                                 */
+
+static uint64_t seed_word;
+
+static uint64_t draw64(void)
+{
+    seed_word ^= seed_word >> 12;
+    seed_word ^= seed_word << 25;
+    seed_word ^= seed_word >> 27;
+    return seed_word * UINT64_C(0x2545F4914F6CDD1D);
+}
+
+static unsigned below(unsigned bound) /* 0 to bound - 1 */
+{
+    return (unsigned)((draw64() >> 32) * bound >> 32);
+}
+
+static unsigned between(unsigned low, unsigned high)
+{
+    return low + below(high - low + 1);
+}
+
+static bool chance(unsigned percent)
+{
+    return below(100) < percent;
+}
+
+static unsigned pick_weighted(const unsigned *weights, unsigned count)
+{
+    unsigned total = 0;
+
+    for (unsigned i = 0; i < count; i++) {
+        total += weights[i];
+    }
+    unsigned at = below(total);
+    for (unsigned i = 0; i < count; i++) {
+        if (at < weights[i]) {
+            return i;
+        }
+        at -= weights[i];
+    }
+    return count - 1;
+}
+
+/* One of the bytes from..to becomes something from low to high. Wherever two
+ * draws meet, their order is fixed, so that every compiler draws alike. */
+static void spoil(uint8_t *bytes, unsigned from, unsigned to, unsigned low, unsigned high)
+{
+    const unsigned place = between(from, to);
+
+    bytes[place] = (uint8_t)between(low, high);
+}
+
+/* ------------------------------------------------------------------ */
+/* Sets as plain words.                                                 */
+
+static unsigned set_size(uint64_t set)
+{
+    unsigned size = 0;
+
+    for (; set != 0; set &= set - 1) {
+        size++;
+    }
+    return size;
+}
+
+/* A member of a set that isn't empty. */
+static uint8_t member(uint64_t set)
+{
+    unsigned skip = below(set_size(set));
+
+    for (unsigned a = 0; a < 64; a++) {
+        if ((set >> a & 1) != 0 && skip-- == 0) {
+            return (uint8_t)a;
+        }
+    }
+    return 0;
+}
+
+/* Each member with the given chance. */
+static uint64_t thin(uint64_t set, unsigned percent)
+{
+    uint64_t kept = 0;
+
+    for (unsigned a = 0; a < 64; a++) {
+        if ((set >> a & 1) != 0 && chance(percent)) {
+            kept |= UINT64_C(1) << a;
+        }
+    }
+    return kept;
+}
+
+/* ------------------------------------------------------------------ */
+/* Policies as records in memory.                                       */
+
+enum { NEXT = 1, OK, SUP, INS, ACASE, SPEND, END, HALT };
+enum { LEAF = 1, TRIVIAL, UNSATISFIABLE, PAR_AND, SEQ_AND, PAR_OR, SEQ_OR };
+enum { IDLE = 0, PENDING = 1, CLOSING = 2 };
+enum { MAX_N = 31, MAX_M = 512, ROOM = 8192 };
+
+struct step {
+    uint8_t kind, action, to[2];
+    uint64_t operand;
+};
+
+struct node {
+    uint8_t kind, left, right, count;
+    uint32_t start;
+    uint64_t set;
+    struct step steps[64];
+};
+
+struct policy {
+    unsigned n;
+    struct node nodes[MAX_N];
+};
+
+struct file {
+    size_t length;
+    uint8_t bytes[ROOM];
+};
+
+static void put(uint8_t *at, uint64_t number, unsigned bytes)
+{
+    for (unsigned i = 0; i < bytes; i++) {
+        at[i] = (uint8_t)(number >> 8 * (bytes - 1 - i));
+    }
+}
+
+static uint64_t get(const uint8_t *at, unsigned bytes)
+{
+    uint64_t number = 0;
+
+    for (unsigned i = 0; i < bytes; i++) {
+        number = number << 8 | at[i];
+    }
+    return number;
+}
+
+static void write_step(uint8_t *at, const struct step *s)
+{
+    at[0] = s->kind;
+    at[1] = s->action;
+    at[2] = s->to[0];
+    at[3] = s->to[1];
+    put(at + 4, s->operand, 8);
+}
+
+static void write_file(struct file *f, const struct policy *p)
+{
+    uint8_t *at = f->bytes + 6;
+    unsigned m = 0;
+
+    for (unsigned k = 0; k < p->n; k++, at += 16) {
+        const struct node *node = &p->nodes[k];
+        at[0] = node->kind;
+        at[1] = node->left;
+        at[2] = node->right;
+        at[3] = node->count;
+        put(at + 4, node->start, 4);
+        put(at + 8, node->set, 8);
+        m += node->count;
+    }
+    for (unsigned k = 0; k < p->n; k++) {
+        for (unsigned s = 0; s < p->nodes[k].count; s++, at += 12) {
+            write_step(at, &p->nodes[k].steps[s]);
+        }
+    }
+    f->length = (size_t)(at - f->bytes);
+    put(f->bytes, f->length, 2);
+    f->bytes[2] = 1;
+    f->bytes[3] = (uint8_t)p->n;
+    put(f->bytes + 4, m, 2);
+}
+
+/* ------------------------------------------------------------------ */
+/* Leaves, mode-correct by construction: steps are laid down in order of
+ * offset; an edge is a target field not yet filled, with its mode and
+ * its possible actions.                                                */
+
+struct temper { /* chances of one policy, in weights */
+    unsigned next, ins, spend, acase, ok, sup, end, halt, join, back;
+    unsigned pending_end, pending_halt, closing_end;
+    uint64_t alphabet;
+};
+
+struct edge {
+    uint8_t from, slot, mode;
+    uint64_t possible;
+};
+
+struct growth {
+    struct node *leaf;
+    const struct temper *t;
+    uint64_t effects; /* actions the leaf may insert or suppress */
+    unsigned inserts; /* ins steps it may still have */
+    struct edge edges[160];
+    unsigned open;
+    uint8_t nexts[64];
+    unsigned next_count;
+};
+
+static void fill(struct growth *g, const struct edge *e, unsigned target)
+{
+    if (e->from != 0xFF) {
+        g->leaf->steps[e->from].to[e->slot] = (uint8_t)target;
+    }
+}
+
+static void add_edge(struct growth *g, unsigned from, unsigned slot, unsigned mode,
+                     uint64_t possible)
+{
+    const struct edge e = {(uint8_t)from, (uint8_t)slot, (uint8_t)mode, possible};
+
+    if (mode == IDLE && g->next_count > 0 && chance(g->t->back)) {
+        fill(g, &e, g->nexts[below(g->next_count)]);
+    } else {
+        g->edges[g->open++] = e;
+    }
+}
+
+static unsigned open_modes(const struct growth *g)
+{
+    unsigned modes = 0;
+
+    for (unsigned i = 0; i < g->open; i++) {
+        modes |= 1u << g->edges[i].mode;
+    }
+    return modes;
+}
+
+/* Leads open edges of a mode to an offset: one chosen, the others by chance or
+ * all. Answers their possible actions together. */
+static uint64_t attach(struct growth *g, unsigned chosen, unsigned target, bool all)
+{
+    const unsigned mode = g->edges[chosen].mode;
+    uint64_t possible = 0;
+    unsigned kept = 0;
+
+    for (unsigned i = 0; i < g->open; i++) {
+        const struct edge e = g->edges[i];
+        if (e.mode == mode && (i == chosen || all || chance(g->t->join))) {
+            fill(g, &e, target);
+            possible |= e.possible;
+        } else {
+            g->edges[kept++] = e;
+        }
+    }
+    g->open = kept;
+    return possible;
+}
+
+static unsigned count_modes(unsigned modes)
+{
+    return (modes & 1) + (modes >> 1 & 1) + (modes >> 2 & 1);
+}
+
+/* A kind that may stand in the mode and leaves room to lead all edges on. */
+static unsigned choose_kind(const struct growth *g, unsigned mode, uint64_t possible,
+                            unsigned left)
+{
+    const struct temper *t = g->t;
+    const unsigned open = open_modes(g);
+    const bool next_fits = count_modes(open | 1u << PENDING | 1u << CLOSING) <= left;
+    const bool idle_fits = count_modes(open | 1u << IDLE) <= left;
+    const bool same_fits = count_modes(open | 1u << mode) <= left;
+    const bool pending = mode == PENDING;
+    const bool inserts = same_fits && g->inserts > 0 && g->effects != 0;
+    const unsigned weights[9] = {
+        [NEXT] = mode == IDLE && next_fits ? t->next : 0,
+        [OK] = pending && idle_fits ? t->ok : 0,
+        [SUP] = pending && idle_fits && (possible & ~g->effects) == 0 ? t->sup : 0,
+        [INS] = inserts ? t->ins : 0,
+        [ACASE] = pending && same_fits && set_size(possible) > 1 ? t->acase : 0,
+        [SPEND] = same_fits ? t->spend : 0,
+        [END] = pending ? t->pending_end : mode == CLOSING ? t->closing_end : t->end,
+        [HALT] = pending ? t->pending_halt : t->halt,
+    };
+
+    return pick_weighted(weights, 9);
+}
+
+static uint64_t draw_amount(uint32_t start)
+{
+    switch (below(7)) {
+    case 0:
+        return 0;
+    case 1:
+        return start;
+    case 2:
+        return start == 0 ? 0 : start - 1;
+    case 3:
+        return start == UINT32_MAX ? start : start + 1;
+    case 4:
+        return draw64() >> 32;
+    default:
+        return between(1, 3);
+    }
+}
+
+static void lay_step(struct growth *g, unsigned at, unsigned kind, unsigned mode,
+                     uint64_t possible)
+{
+    struct step *s = &g->leaf->steps[at];
+    uint64_t yes;
+
+    *s = (struct step){.kind = (uint8_t)kind};
+    switch (kind) {
+    case NEXT:
+        g->nexts[g->next_count++] = (uint8_t)at;
+        add_edge(g, at, 0, PENDING, g->leaf->set);
+        add_edge(g, at, 1, CLOSING, 0);
+        break;
+    case OK:
+    case SUP:
+        add_edge(g, at, 0, IDLE, 0);
+        break;
+    case INS:
+        s->action = member(g->effects);
+        g->inserts--;
+        add_edge(g, at, 0, mode, possible);
+        break;
+    case ACASE:
+        do {
+            yes = thin(possible, 50);
+        } while (yes == 0 || yes == possible);
+        s->operand = yes | thin(g->leaf->set & ~possible, 50);
+        add_edge(g, at, 0, PENDING, yes);
+        add_edge(g, at, 1, PENDING, possible & ~yes);
+        break;
+    case SPEND:
+        s->operand = draw_amount(g->leaf->start);
+        add_edge(g, at, 0, mode, possible);
+        add_edge(g, at, 1, mode, possible);
+        break;
+    default:
+        break;
+    }
+}
+
+static uint32_t draw_start(void)
+{
+    switch (below(8)) {
+    case 0:
+        return 0;
+    case 1:
+        return UINT32_MAX;
+    case 2:
+        return (uint32_t)(draw64() >> 32);
+    default:
+        return between(1, 9);
+    }
+}
+
+/* Open edges to a next all lead back, when there is one. */
+static void lead_back(struct growth *g)
+{
+    unsigned kept = 0;
+
+    for (unsigned i = 0; i < g->open; i++) {
+        if (g->edges[i].mode == IDLE && g->next_count > 0) {
+            fill(g, &g->edges[i], g->nexts[below(g->next_count)]);
+        } else {
+            g->edges[kept++] = g->edges[i];
+        }
+    }
+    g->open = kept;
+}
+
+static void grow_leaf(struct node *leaf, const struct temper *t, uint64_t may_regulate,
+                      uint64_t effects, unsigned inserts, unsigned size)
+{
+    struct growth g = {.leaf = leaf, .t = t, .effects = effects, .inserts = inserts};
+    unsigned at = 0;
+
+    leaf->kind = LEAF;
+    leaf->left = leaf->right = 0;
+    leaf->start = draw_start();
+    leaf->set = thin(may_regulate, chance(30) ? 100 : 55);
+    if (leaf->set == 0) {
+        leaf->set = UINT64_C(1) << member(may_regulate);
+    }
+    g.edges[g.open++] = (struct edge){0xFF, 0, IDLE, 0};
+    while (at < size) {
+        const unsigned left = size - at - 1; /* after this one */
+        const bool tight = count_modes(open_modes(&g)) > left;
+        const bool room = count_modes(open_modes(&g) | 6u) <= left;
+        if (g.open == 0 || (at > 0 && room && chance(2))) {
+            if (!room) {
+                break;
+            }
+            lay_step(&g, at++, NEXT, IDLE, 0); /* a next that nothing leads to */
+            continue;
+        }
+        if (tight && at > 0) {
+            lead_back(&g);
+            if (g.open == 0) {
+                continue;
+            }
+        }
+        const unsigned chosen = at == 0 ? 0 : below(g.open);
+        const unsigned mode = g.edges[chosen].mode;
+        const uint64_t possible = attach(&g, chosen, at, tight);
+        unsigned kind = choose_kind(&g, mode, possible, left);
+        if (at == 0 && left >= 2 && chance(70)) {
+            kind = NEXT;
+        }
+        lay_step(&g, at++, kind, mode, possible);
+    }
+    leaf->count = (uint8_t)at;
+}
+
+/* ------------------------------------------------------------------ */
+/* Trees.                                                               */
+
+struct need { /* what a node must keep to, so that rules 9 and 10 hold */
+    uint64_t regulate, effects;
+    unsigned spread;
+    uint8_t parent_kind;
+};
+
+/* Shape: 0 leaning left, 1 leaning right, 2 balanced, 3 by chance. Nodes are
+ * made in order, so a child's number is greater. */
+static void grow_shape(struct policy *p, unsigned inner, unsigned shape)
+{
+    uint8_t slots[MAX_N];
+    unsigned count = 1, first = 0;
+
+    slots[0] = 0;
+    p->n = 1;
+    memset(p->nodes, 0, sizeof p->nodes);
+    for (unsigned i = 0; i < inner; i++) {
+        unsigned at = first;
+        if (shape == 0 || shape == 1) {
+            at = count - 1;
+        } else if (shape == 3) {
+            at = between(first, count - 1);
+        }
+        const uint8_t k = slots[at];
+        slots[at] = slots[first++];
+        const bool turned = chance(50);
+        const uint8_t left = (uint8_t)(p->n + (turned ? 1 : 0));
+        const uint8_t right = (uint8_t)(p->n + (turned ? 0 : 1));
+        p->n += 2;
+        p->nodes[k].kind = (uint8_t)between(PAR_AND, SEQ_OR);
+        p->nodes[k].left = left;
+        p->nodes[k].right = right;
+        if (shape == 0) { /* the last slot is the one to go on from */
+            slots[count++] = right;
+            slots[count++] = left;
+        } else {
+            slots[count++] = left;
+            slots[count++] = right;
+        }
+    }
+}
+
+/* Parallel sides share out the actions: an action with an effect on one side
+ * isn't regulated by the other. */
+static void share_parallel(const struct need *need, struct need *left, struct need *right)
+{
+    *left = *right = *need;
+    for (unsigned a = 0; a < 64; a++) {
+        const uint64_t bit = UINT64_C(1) << a;
+        switch (below(5)) {
+        case 0: /* regulated by both, effects of neither */
+            left->effects &= ~bit;
+            right->effects &= ~bit;
+            break;
+        case 1: /* effects of both, regulated by neither */
+            left->regulate &= ~bit;
+            right->regulate &= ~bit;
+            break;
+        case 2:
+            left->regulate &= ~bit;
+            left->effects &= ~bit;
+            break;
+        case 3:
+            right->regulate &= ~bit;
+            right->effects &= ~bit;
+            break;
+        default:
+            if (chance(50)) {
+                left->effects &= ~bit;
+                right->regulate &= ~bit;
+            } else {
+                right->effects &= ~bit;
+                left->regulate &= ~bit;
+            }
+            break;
+        }
+    }
+    left->spread = below(need->spread + 1);
+    right->spread = need->spread - left->spread;
+}
+
+static void share_sequential(const struct need *need, struct need *left, struct need *right)
+{
+    unsigned factor = between(1, need->spread + 1);
+
+    *left = *right = *need;
+    if (chance(60)) { /* near the root of it, so that both have some */
+        factor = 1;
+        while ((factor + 1) * (factor + 1) <= need->spread + 1) {
+            factor++;
+        }
+    }
+    left->spread = factor - 1;
+    right->spread = (need->spread + 1) / factor - 1;
+}
+
+/* A node without sides: mostly a leaf; trivial and unsatisfiable mostly where
+ * they decide nothing. */
+static void grow_end(struct policy *p, unsigned k, const struct need *need,
+                     const struct temper *t, unsigned size)
+{
+    struct node *node = &p->nodes[k];
+    const bool under_and = need->parent_kind == PAR_AND || need->parent_kind == SEQ_AND;
+
+    if (need->regulate == 0 || chance(6)) {
+        const bool trivial = chance(90) ? under_and : !under_and;
+        *node = (struct node){.kind = trivial ? TRIVIAL : UNSATISFIABLE};
+        return;
+    }
+    for (unsigned tries = 0; tries < 20 && node->count != size; tries++) {
+        grow_leaf(node, t, need->regulate, need->effects, need->spread, size);
+    }
+}
+
+static unsigned draw_size(unsigned most)
+{
+    unsigned size = chance(75) ? between(3, 12) : between(1, 64);
+
+    return size > most ? most : size;
+}
+
+static void grow_tree(struct policy *p, const struct temper *t, unsigned spread, bool large)
+{
+    struct need needs[MAX_N];
+    unsigned ends = (p->n + 1) / 2;
+    unsigned steps = MAX_M;
+
+    needs[0] = (struct need){t->alphabet, t->alphabet, spread, 0};
+    for (unsigned k = 0; k < p->n; k++) {
+        struct node *node = &p->nodes[k];
+        if (node->kind >= PAR_AND) {
+            struct need *left = &needs[node->left];
+            struct need *right = &needs[node->right];
+            if (node->kind == SEQ_AND || node->kind == SEQ_OR) {
+                share_sequential(&needs[k], left, right);
+            } else {
+                share_parallel(&needs[k], left, right);
+            }
+            left->parent_kind = right->parent_kind = node->kind;
+            continue;
+        }
+        const unsigned most = steps - (ends - 1); /* one at least for each later end */
+        const unsigned cap = most > 64 ? 64 : most;
+        const unsigned even = steps / ends;
+        grow_end(p, k, &needs[k], t, large ? (even > 64 ? 64 : even) : draw_size(cap));
+        steps -= node->count;
+        ends--;
+    }
+}
+
+static void draw_temper(struct temper *t)
+{
+    const unsigned width = between(2, 7);
+
+    *t = (struct temper){.next = 60, .ins = 25, .spend = 8, .acase = 25, .ok = 20,
+                         .sup = 15, .end = 3, .halt = 2, .join = 25, .back = 60,
+                         .pending_end = 3, .pending_halt = 3, .closing_end = 25};
+    t->alphabet = 0;
+    for (unsigned i = 0; i < width; i++) {
+        t->alphabet |= UINT64_C(1) << (chance(85) ? below(9) : below(64));
+    }
+    if (chance(4)) {
+        t->alphabet = draw64() | UINT64_C(1) << 63;
+    }
+    switch (below(7)) {
+    case 0:
+        t->end = 9;
+        t->halt = 8;
+        break;
+    case 1:
+        t->end = t->halt = t->pending_end = t->pending_halt = 1;
+        break;
+    case 3:
+        t->pending_end = 20;
+        t->pending_halt = 20;
+        break;
+    case 2:
+        t->ins = 80;
+        break;
+    default:
+        break;
+    }
+}
+
+/* A leaf of the plainest kind: a number of inserts of one action before or after
+ * the verdict. */
+static void plain_leaf(struct node *leaf, uint64_t set, unsigned width, unsigned action)
+{
+    const unsigned verdict = chance(30) ? 1 : width + 1;
+    const bool pure = chance(60);
+
+    leaf->kind = LEAF;
+    leaf->start = draw_start();
+    leaf->set = set;
+    leaf->count = (uint8_t)(width + 3);
+    leaf->steps[0] = (struct step){NEXT, 0, {1, (uint8_t)(width + 2)}, 0};
+    for (unsigned s = 1; s <= width + 1; s++) {
+        const uint8_t to = s == width + 1 ? 0 : (uint8_t)(s + 1);
+        const uint8_t inserted = (uint8_t)(pure || chance(95) ? action : below(8));
+        leaf->steps[s] = (struct step){INS, inserted, {to, 0}, 0};
+    }
+    leaf->steps[verdict].kind = pure || chance(80) ? OK : SUP;
+    leaf->steps[verdict].action = 0;
+    if (verdict == width + 1 && chance(12)) {
+        leaf->steps[verdict] = (struct step){chance(50) ? END : HALT, 0, {0, 0}, 0};
+    }
+    leaf->steps[width + 2] = (struct step){chance(90) ? END : HALT, 0, {0, 0}, 0};
+}
+
+/* A chain of sequential nodes, leaning left, whose every insert is regulated by
+ * the next leaf: as many events as the spread allows. */
+static void grow_storm(struct policy *p)
+{
+    static const uint8_t WIDTHS[][4] = {
+        {15, 15, 0, 0}, {3, 3, 15, 0}, {1, 1, 7, 7}, {7, 31, 0, 0}, {61, 3, 0, 0}, {2, 4, 5, 0},
+        {15, 16, 0, 0}, {3, 3, 3, 3},  {4, 4, 9, 0}, {7, 32, 0, 0}, {1, 3, 5, 5},  {3, 3, 16, 0}};
+    const uint8_t *widths = WIDTHS[below(12)];
+    const unsigned leaves = widths[2] == 0 ? 2 : widths[3] == 0 ? 3 : 4;
+    uint8_t order[4], spine[4];
+    unsigned depth = 0, count = 0, k = 0;
+
+    grow_shape(p, leaves - 1, 0);
+    while (p->nodes[k].kind >= PAR_AND) {
+        p->nodes[k].kind = chance(50) ? SEQ_AND : SEQ_OR;
+        spine[depth++] = (uint8_t)k;
+        k = p->nodes[k].left;
+    }
+    order[count++] = (uint8_t)k; /* leaves from left to right */
+    while (depth > 0) {
+        order[count++] = p->nodes[spine[--depth]].right;
+    }
+    for (unsigned i = 0; i < count; i++) {
+        const uint64_t set = UINT64_C(1) << (i + 1) | (i == 0 || chance(60) ? 1 : 0);
+        plain_leaf(&p->nodes[order[i]], set, widths[i], i + 2);
+    }
+}
+
+/* Five leaves side by side whose inserts add up to about 255. */
+static void grow_sum(struct policy *p)
+{
+    unsigned made = 0;
+
+    grow_shape(p, 4, below(4));
+    for (unsigned k = 0; k < p->n; k++) {
+        struct node *node = &p->nodes[k];
+        if (node->kind >= PAR_AND) {
+            node->kind = chance(50) ? PAR_AND : PAR_OR;
+        } else {
+            plain_leaf(node, 1u | UINT64_C(1) << (10 + made), 51, 20 + made);
+            made++;
+        }
+    }
+    if (chance(50)) {
+        unsigned k = 0;
+        while (p->nodes[k].kind != LEAF) {
+            k++;
+        }
+        plain_leaf(&p->nodes[k], 1, chance(50) ? 52 : 50, 30);
+    }
+}
+
+/* Mostly sequential nodes over two or three actions, and leaves that insert much
+ * and are at times decided by what they are given. */
+static void lean_to_feeding(struct policy *p, struct temper *t)
+{
+    t->alphabet = UINT64_C(1) << below(6) | UINT64_C(1) << below(6);
+    t->alphabet |= chance(50) ? UINT64_C(1) << below(6) : 0;
+    t->ins = 110;
+    t->acase = 15;
+    t->spend = 4;
+    t->pending_end = between(3, 30);
+    t->pending_halt = between(3, 30);
+    for (unsigned k = 0; k < p->n; k++) {
+        if (p->nodes[k].kind >= PAR_AND && chance(70)) {
+            p->nodes[k].kind = chance(50) ? SEQ_AND : SEQ_OR;
+        }
+    }
+}
+
+/* A policy by the general way; spread above 255 gives one that rule 10 may
+ * refuse. */
+static void grow_policy(struct policy *p, unsigned spread)
+{
+    static const unsigned SIZES[16] = {14, 24, 14, 9, 7, 5, 4, 3, 2, 2, 2, 1, 1, 1, 1, 3};
+    const bool wide = spread > 255;
+    struct temper t;
+
+    draw_temper(&t);
+    if (wide) {
+        t.ins = 400;
+    }
+    const unsigned shape = below(4);
+    grow_shape(p, wide ? between(1, 5) : pick_weighted(SIZES, 16), shape);
+    if (!wide && chance(60)) {
+        lean_to_feeding(p, &t);
+    }
+    grow_tree(p, &t, spread, wide || chance(p->n > 14 ? 25 : 3));
+}
+
+/* ------------------------------------------------------------------ */
+/* The calls.                                                           */
+
+enum { CHECK = 0, OPEN = 1, OFFER = 2, CLOSE = 3 };
+
+static unsigned long calls_left;
+
+struct session {
+    struct policy policy;
+    struct file file;
+    guard_sets sets;
+    uint8_t state[GUARD_STATE_BYTES + 64];
+    size_t state_length;
+    uint8_t events[2048];
+    size_t events_length;
+};
+
+static void pattern(uint8_t *bytes, size_t length)
+{
+    const uint8_t start = (uint8_t)below(256);
+
+    for (size_t i = 0; i < length; i++) {
+        bytes[i] = (uint8_t)(start + 37 * i + (i >> 3));
+    }
+}
+
+static void write_field(const uint8_t *bytes, size_t length)
+{
+    putchar((int)(length >> 8));
+    putchar((int)(length & 0xFF));
+    fwrite(bytes, 1, length, stdout);
+}
+
+/* Writes one call and makes it, so that s holds what the guard left. */
+static guard_answer call(struct session *s, unsigned entry, uint8_t action)
+{
+    const size_t state_length = entry == CHECK ? 0 : s->state_length;
+    const size_t events_length = entry == CHECK ? 0 : s->events_length;
+    guard_answer answer = {0, 0, 0};
+
+    if (calls_left == 0) {
+        return answer;
+    }
+    if (s->file.length > ROOM) {
+        fputs("draw: a file has outgrown its room\n", stderr);
+        exit(1);
+    }
+    calls_left--;
+    pattern(s->events, sizeof s->events);
+    putchar((int)entry);
+    write_field(s->file.bytes, s->file.length);
+    write_field(s->state, state_length);
+    write_field(s->events, events_length);
+    putchar(action);
+    switch (entry) {
+    case OPEN:
+        answer = guard_open(s->file.bytes, s->file.length, s->state, state_length,
+                            s->events, events_length);
+        break;
+    case OFFER:
+        answer = guard_offer(s->file.bytes, s->file.length, s->state, state_length,
+                             s->events, events_length, action);
+        break;
+    case CLOSE:
+        answer = guard_close(s->file.bytes, s->file.length, s->state, state_length,
+                             s->events, events_length);
+        break;
+    default:
+        answer.refusal = guard_check(s->file.bytes, s->file.length).refusal;
+        break;
+    }
+    return answer;
+}
+
+static void right_buffers(struct session *s)
+{
+    static const unsigned LENGTHS[] = {513, 514, 600, 1024, 2048};
+
+    s->state_length = GUARD_STATE_BYTES;
+    s->events_length = chance(90) ? GUARD_EVENT_BYTES : LENGTHS[below(5)];
+}
+
+static void wrong_buffers(struct session *s)
+{
+    static const unsigned STATES[] = {247, 249, 0, 1, 240, 256};
+    static const unsigned EVENTS[] = {511, 510, 0, 1, 256};
+    const unsigned which = between(1, 3);
+
+    if ((which & 1) != 0) {
+        s->state_length = STATES[below(6)];
+    }
+    if ((which & 2) != 0) {
+        s->events_length = EVENTS[below(5)];
+    }
+}
+
+static uint8_t draw_action(const struct session *s)
+{
+    const uint64_t set = s->sets.regulated.bits;
+
+    if (set != 0 && chance(82)) {
+        return member(set);
+    }
+    if (chance(8)) {
+        return (uint8_t)between(64, 255);
+    }
+    return (uint8_t)(chance(50) ? below(10) : below(64));
+}
+
+static guard_answer call_with_action(struct session *s, unsigned entry)
+{
+    const uint8_t action = draw_action(s);
+
+    return call(s, entry, action);
+}
+
+/* A policy that passes; mostly one that opens running. */
+static void draw_good(struct session *s)
+{
+    const bool alive = chance(90);
+    uint8_t scratch[GUARD_EVENT_BYTES];
+
+    for (unsigned tries = 0;; tries++) {
+        if (chance(5)) {
+            grow_storm(&s->policy);
+        } else if (chance(1)) {
+            grow_sum(&s->policy);
+        } else {
+            grow_policy(&s->policy, chance(80) ? 255 : below(256));
+        }
+        write_file(&s->file, &s->policy);
+        s->sets = guard_check(s->file.bytes, s->file.length);
+        if (s->sets.refusal != 0) {
+            continue;
+        }
+        const guard_answer answer =
+            guard_open(s->file.bytes, s->file.length, s->state, GUARD_STATE_BYTES, scratch,
+                       sizeof scratch);
+        if (!alive || answer.status == GUARD_RUNNING || tries > 30) {
+            return;
+        }
+    }
+}
+
+/* ------------------------------------------------------------------ */
+/* States.                                                              */
+
+static uint8_t *record(struct session *s, unsigned k)
+{
+    return s->state + 8u * k;
+}
+
+static bool has_next(const struct node *leaf)
+{
+    for (unsigned i = 0; i < leaf->count; i++) {
+        if (leaf->steps[i].kind == NEXT) {
+            return true;
+        }
+    }
+    return false;
+}
+
+static bool side_pair_runs(unsigned kind, unsigned left, unsigned right)
+{
+    const bool left_ended = left >= 2 && left <= 4;
+    const bool right_ended = right >= 2 && right <= 4;
+
+    if (kind == PAR_AND || kind == SEQ_AND) {
+        return left != 5 && right != 5 && !(left_ended && right_ended);
+    }
+    return !left_ended && !right_ended && !(left == 5 && right == 5);
+}
+
+/* The statuses a node can hold in some fitting state, bit by status. */
+static unsigned can_hold(const struct policy *p, unsigned k, const unsigned *can)
+{
+    const struct node *node = &p->nodes[k];
+
+    switch (node->kind) {
+    case LEAF:
+        return (has_next(node) ? 1u << 1 : 0) | 1u << 2 | 1u << 5;
+    case TRIVIAL:
+        return 1u << 2;
+    case UNSATISFIABLE:
+        return 1u << 5;
+    default:
+        break;
+    }
+    unsigned held = node->kind == PAR_AND || node->kind == SEQ_AND
+                        ? 1u << 2 | 1u << 5
+                        : 1u << 3 | 1u << 4 | 1u << 5;
+    for (unsigned l = 1; l <= 5; l++) {
+        for (unsigned r = 1; r <= 5; r++) {
+            if ((can[node->left] >> l & 1) != 0 && (can[node->right] >> r & 1) != 0 &&
+                side_pair_runs(node->kind, l, r)) {
+                held |= 1u << 1;
+            }
+        }
+    }
+    return held;
+}
+
+static unsigned draw_status(unsigned can, unsigned run_percent)
+{
+    if ((can >> 1 & 1) != 0 && (chance(run_percent) || (can & ~2u) == 0)) {
+        return 1;
+    }
+    for (;;) {
+        const unsigned status = between(2, 5);
+        if ((can >> status & 1) != 0) {
+            return status;
+        }
+        if ((can & ~2u) == 0) {
+            return 1;
+        }
+    }
+}
+
+/* Any state that fits, reached or not. */
+static void draw_state(struct session *s, unsigned run_percent)
+{
+    const struct policy *p = &s->policy;
+    unsigned can[MAX_N] = {0};
+
+    for (unsigned k = p->n; k-- > 0;) {
+        can[k] = can_hold(p, k, can);
+    }
+    memset(s->state, 0, sizeof s->state);
+    record(s, 0)[0] = (uint8_t)draw_status(can[0], run_percent);
+    for (unsigned k = 0; k < p->n; k++) {
+        const struct node *node = &p->nodes[k];
+        const unsigned status = record(s, k)[0];
+        if (node->kind >= PAR_AND) {
+            unsigned l = 6, r = 6;
+            while (status == 1 && (l == 6 || !side_pair_runs(node->kind, l, r))) {
+                l = draw_status(can[node->left], 75);
+                r = draw_status(can[node->right], 75);
+            }
+            record(s, node->left)[0] = (uint8_t)l;
+            record(s, node->right)[0] = (uint8_t)r;
+        } else if (node->kind == LEAF && status == 1) {
+            unsigned offset = below(node->count);
+            while (node->steps[offset].kind != NEXT) {
+                offset = below(node->count);
+            }
+            record(s, k)[1] = (uint8_t)offset;
+            const uint32_t counter =
+                chance(50) ? node->start
+                           : (uint32_t)((draw64() >> 32) % ((uint64_t)node->start + 1));
+            put(record(s, k) + 4, counter, 4);
+        }
+    }
+}
+
+/* Clauses 8 to 11 of break_state: offset and counter of a record. */
+static bool break_place(const struct policy *p, unsigned k, uint8_t *rec, unsigned clause)
+{
+    const struct node *node = &p->nodes[k];
+
+    switch (clause) {
+    case 8: /* a running leaf off its nexts */
+        if (node->kind != LEAF || rec[0] != 1) {
+            return false;
+        }
+        rec[1] = (uint8_t)(chance(60) ? below(node->count) : between(node->count, 255));
+        return true;
+    case 9: /* a counter above the start */
+        if (node->kind != LEAF || rec[0] != 1 || node->start == UINT32_MAX) {
+            return false;
+        }
+        put(rec + 4, chance(50) ? node->start + 1 : UINT32_MAX, 4);
+        return true;
+    case 10: /* an offset where there is none */
+        if (node->kind == LEAF && rec[0] == 1) {
+            return false;
+        }
+        rec[1] = (uint8_t)between(1, chance(50) ? 3 : 255);
+        return true;
+    default: /* a counter where there is none */
+        if (node->kind == LEAF && rec[0] == 1) {
+            return false;
+        }
+        spoil(rec, 4, 7, 1, 255);
+        return true;
+    }
+}
+
+/* Breaks one clause of rule 12, or answers false where there is no place for
+ * it. The clauses are numbered in the order of 01's sentence. */
+static bool break_state(struct session *s, unsigned clause)
+{
+    const struct policy *p = &s->policy;
+    const unsigned k = below(p->n);
+    const struct node *node = &p->nodes[k];
+    uint8_t *rec = record(s, k);
+    static const uint8_t ODD[] = {0, 7, 8, 128, 255};
+
+    switch (clause) {
+    case 0: /* a record from n on */
+        if (p->n == MAX_N) {
+            return false;
+        }
+        spoil(s->state, 8 * p->n, 247, 1, 255);
+        return true;
+    case 1: /* the two zeros */
+        spoil(rec, 2, 3, 1, 255);
+        return true;
+    case 2: /* the root dropped, all beneath too */
+        for (unsigned i = 0; i < p->n; i++) {
+            put(record(s, i), UINT64_C(6) << 56, 8);
+        }
+        return true;
+    case 3: /* dropped beneath a running node */
+        if (node->kind < PAR_AND || rec[0] != 1) {
+            return false;
+        }
+        put(record(s, chance(50) ? node->left : node->right), UINT64_C(6) << 56, 8);
+        return true;
+    case 4: /* not dropped beneath a decided or dropped node */
+        if (node->kind < PAR_AND || rec[0] == 1) {
+            return false;
+        }
+        spoil(record(s, chance(50) ? node->left : node->right), 0, 0, 1, 5);
+        return true;
+    case 5: /* a status that the kind doesn't hold */
+        rec[0] = (uint8_t)between(1, 5);
+        return true;
+    case 6:
+        rec[0] = ODD[below(5)];
+        return true;
+    case 7: /* a running node with sides that decide it */
+        if (node->kind < PAR_AND || rec[0] != 1) {
+            return false;
+        }
+        put(record(s, node->left), (uint64_t)(chance(50) ? 2 : 5) << 56, 8);
+        if (chance(60)) {
+            put(record(s, node->right), (uint64_t)(chance(50) ? 2 : 5) << 56, 8);
+        }
+        return true;
+    default:
+        return break_place(p, k, rec, clause);
+    }
+}
+
+/* ------------------------------------------------------------------ */
+/* Broken files: mutations of good ones, each aimed at one clause.      */
+
+static uint8_t *file_node(struct file *f, unsigned k)
+{
+    return f->bytes + 6 + 16u * k;
+}
+
+static uint8_t *file_step(struct file *f, unsigned n, unsigned s)
+{
+    return f->bytes + 6 + 16u * n + 12u * s;
+}
+
+static uint8_t other_byte(uint8_t than)
+{
+    uint8_t byte;
+
+    do {
+        byte = (uint8_t)(chance(60) ? below(10) : below(256));
+    } while (byte == than);
+    return byte;
+}
+
+static void fix_length(struct file *f)
+{
+    put(f->bytes, f->length, 2);
+}
+
+/* Rules 1 to 3. */
+static bool break_header(struct file *f, unsigned clause)
+{
+    static const uint8_t NODES[] = {0, 32, 33, 255};
+    const unsigned n = f->bytes[3];
+    const unsigned m = (unsigned)get(f->bytes + 4, 2);
+
+    switch (clause) {
+    case 0: /* fewer than 6 bytes, at times with a length field that agrees */
+        f->length = below(6);
+        if (chance(60)) {
+            fix_length(f);
+        }
+        return true;
+    case 1:
+        put(f->bytes, chance(70) ? f->length + (chance(50) ? 1 : (size_t)-1) : below(65536), 2);
+        return true;
+    case 2: /* bytes given differ from the length field */
+        f->length = chance(50) ? f->length - between(1, 16) : f->length + between(1, 16);
+        return true;
+    case 3:
+        f->bytes[2] = other_byte(1);
+        return true;
+    case 4:
+        f->bytes[3] = NODES[below(4)];
+        return true;
+    case 5:
+        f->bytes[3] = (uint8_t)(n + (chance(50) ? 1u : 255u));
+        return true;
+    case 6:
+        put(f->bytes + 4, chance(50) ? m + (chance(50) ? 1u : 65535u) : between(513, 65535), 2);
+        return true;
+    case 7: /* a length that agrees with the bytes, not with n and m */
+        f->length = chance(50) ? f->length - between(1, 16) : f->length + between(1, 16);
+        fix_length(f);
+        return true;
+    case 8: /* 32 nodes, all lengths in agreement */
+        memmove(file_node(f, 32), file_node(f, n), f->length - 6 - 16u * n);
+        for (unsigned k = n; k < 32; k++) {
+            put(file_node(f, k), UINT64_C(2) << 56, 8);
+            put(file_node(f, k) + 8, 0, 8);
+        }
+        f->bytes[3] = 32;
+        f->length += 16u * (32 - n);
+        fix_length(f);
+        return true;
+    default: /* 513 steps, all lengths in agreement */
+        for (unsigned s = m; s < 513; s++) {
+            write_step(file_step(f, n, s), &(struct step){.kind = END});
+        }
+        put(f->bytes + 4, 513, 2);
+        f->length = 6 + 16u * n + 12u * 513;
+        fix_length(f);
+        return true;
+    }
+}
+
+/* Rule 4 in a node. */
+static bool break_node(struct file *f, unsigned clause)
+{
+    const unsigned n = f->bytes[3];
+    const unsigned k = below(n);
+    uint8_t *node = file_node(f, k);
+    const bool leaf = node[0] == LEAF;
+    const bool inner = node[0] >= PAR_AND;
+
+    switch (clause) {
+    case 0:
+        node[0] = (uint8_t)(chance(50) ? 0 : between(8, 255));
+        return true;
+    case 1: /* left or right of a node without sides */
+        spoil(node, 1, 2, 1, chance(50) ? n : 255);
+        return !inner;
+    case 2:
+        node[3] = (uint8_t)(chance(40) ? 0 : between(65, chance(50) ? 65 : 255));
+        return leaf;
+    case 3:
+        put(node + 8, 0, 8);
+        return leaf;
+    case 4: /* step count of a node that is no leaf */
+        node[3] = (uint8_t)between(1, 64);
+        return !leaf;
+    case 5: /* counter */
+        spoil(node, 4, 7, 1, 255);
+        return !leaf;
+    default: /* set */
+        spoil(node, 8, 15, 1, 255);
+        return !leaf;
+    }
+}
+
+/* Rule 5 by one child field. */
+static bool break_child(struct file *f, unsigned clause)
+{
+    const unsigned n = f->bytes[3];
+    const unsigned k = below(n);
+    uint8_t *node = file_node(f, k);
+    const bool inner = node[0] >= PAR_AND;
+
+    switch (clause) {
+    case 0: /* child not above its parent */
+        spoil(node, 1, 2, 0, k);
+        return inner;
+    case 1: /* child not below n */
+        spoil(node, 1, 2, n, chance(70) ? n : 255);
+        return inner;
+    case 2: /* child twice, another never */
+        node[1] = node[2];
+        return inner;
+    case 3:
+        spoil(node, 1, 2, k, n);
+        return inner;
+    default: /* children without a parent */
+        put(node, (uint64_t)between(TRIVIAL, UNSATISFIABLE) << 56, 8);
+        return inner;
+    }
+}
+
+/* A node that keeps to rules 4 and 5 but perhaps not to 6, 8, 9 or 10. */
+static bool change_node(struct file *f, unsigned clause)
+{
+    uint8_t *node = file_node(f, below(f->bytes[3]));
+    const bool leaf = node[0] == LEAF;
+    const bool inner = node[0] >= PAR_AND;
+
+    switch (clause) {
+    case 0: /* another kind of inner node: rules 9 and 10, or still good */
+        node[0] = (uint8_t)between(PAR_AND, SEQ_OR);
+        return inner;
+    case 1: { /* sides exchanged */
+        const uint8_t left = node[1];
+        node[1] = node[2];
+        node[2] = left;
+        return inner;
+    }
+    case 2: /* a leaf's step count off by one */
+        node[3] = (uint8_t)(node[3] + (chance(50) ? 1 : 255));
+        return leaf;
+    default: { /* a leaf's set changed: rules 6, 8 and 9, or still good */
+        const uint64_t bit = UINT64_C(1) << below(10);
+        put(node + 8, get(node + 8, 8) ^ bit, 8);
+        return leaf;
+    }
+    }
+}
+
+/* Rule 5 by a change of more than one field, or of the number of nodes; every
+ * other rule is kept. */
+static bool break_tree(struct file *f, unsigned clause)
+{
+    const unsigned n = f->bytes[3];
+    uint8_t *last = file_node(f, n - 1);
+    uint8_t *one = file_node(f, below(n)), *other = file_node(f, below(n));
+
+    switch (clause) {
+    case 0: { /* two child fields exchanged: each node is still a child once */
+        if (one[0] < PAR_AND || other[0] < PAR_AND) {
+            return false;
+        }
+        uint8_t *a = one + between(1, 2);
+        if (file_node(f, *a)[0] >= PAR_AND && chance(50)) {
+            other = file_node(f, *a); /* a node that becomes its own child */
+        }
+        uint8_t *b = other + between(1, 2);
+        const uint8_t child = *a;
+        *a = *b;
+        *b = child;
+        return true;
+    }
+    case 1: /* a node more, child of none */
+        if (n == MAX_N) {
+            return false;
+        }
+        memmove(last + 32, last + 16, f->length - 6 - 16u * n);
+        put(last + 16, (uint64_t)between(TRIVIAL, UNSATISFIABLE) << 56, 8);
+        put(last + 24, 0, 8);
+        f->bytes[3]++;
+        f->length += 16;
+        fix_length(f);
+        return true;
+    default: { /* the last node taken away, its place given to another child */
+        const unsigned m = (unsigned)get(f->bytes + 4, 2), steps = last[3];
+        unsigned parent = 0;
+        if (n < 3 || steps > m) {
+            return false;
+        }
+        for (unsigned k = 0; k < n; k++) {
+            const uint8_t *node = file_node(f, k);
+            parent = node[0] >= PAR_AND && (node[1] == n - 1 || node[2] == n - 1) ? k : parent;
+        }
+        if (parent + 2 > n - 1) {
+            return false;
+        }
+        uint8_t *field = file_node(f, parent) + (file_node(f, parent)[1] == n - 1 ? 1 : 2);
+        *field = (uint8_t)between(parent + 1, n - 2);
+        memmove(last, last + 16, f->length - 6 - 16u * n);
+        f->bytes[3]--;
+        put(f->bytes + 4, m - steps, 2);
+        f->length -= 16 + 12u * steps;
+        fix_length(f);
+        return true;
+    }
+    }
+}
+
+/* Rule 6: steps that no leaf owns, or a leaf that owns more than there are. */
+static bool break_sum(struct file *f)
+{
+    const unsigned n = f->bytes[3];
+    const unsigned m = (unsigned)get(f->bytes + 4, 2);
+    const bool more = chance(60);
+
+    if ((more && m > MAX_M - 2) || (!more && m == 0)) {
+        return false;
+    }
+    const unsigned by = more ? between(1, 2) : 1;
+    for (unsigned i = 0; more && i < by; i++) {
+        write_step(file_step(f, n, m + i), &(struct step){.kind = END});
+    }
+    put(f->bytes + 4, more ? m + by : m - by, 2);
+    f->length = 6 + 16u * n + 12u * (more ? m + by : m - by);
+    fix_length(f);
+    return true;
+}
+
+/* A step of a random leaf, with its leaf's number of steps and set. */
+struct place {
+    uint8_t *step, *own;
+    unsigned offset, count;
+    uint64_t set;
+};
+
+static bool find_step(struct file *f, struct place *at)
+{
+    const unsigned n = f->bytes[3];
+    const unsigned m = (unsigned)get(f->bytes + 4, 2);
+    unsigned s, first = 0;
+
+    if (m == 0 || n == 0 || n > MAX_N || m > MAX_M) {
+        return false;
+    }
+    s = below(m);
+    for (unsigned k = 0; k < n; k++) {
+        const uint8_t *node = file_node(f, k);
+        if (first + node[3] > m) {
+            return false; /* broken before */
+        }
+        if (s < first + node[3]) {
+            at->own = file_step(f, n, first);
+            at->step = file_step(f, n, s);
+            at->offset = s - first;
+            at->count = node[3];
+            at->set = get(node + 8, 8);
+            return true;
+        }
+        first += node[3];
+    }
+    return false;
+}
+
+/* A step of a kind, if chance finds one. */
+static bool find_kind(struct file *f, struct place *at, uint8_t kind)
+{
+    for (unsigned tries = 0; tries < 100; tries++) {
+        if (find_step(f, at) && at->step[0] == kind) {
+            return true;
+        }
+    }
+    return false;
+}
+
+static unsigned targets(uint8_t kind)
+{
+    return kind == NEXT || kind == ACASE || kind == SPEND ? 2
+           : kind == OK || kind == SUP || kind == INS     ? 1
+                                                          : 0;
+}
+
+/* Gives a step another kind and the fields that go with it. */
+static void turn_step(const struct place *at, uint8_t kind)
+{
+    uint8_t *s = at->step;
+
+    s[0] = kind;
+    s[1] = (uint8_t)(kind == INS ? below(10) : 0);
+    s[2] = (uint8_t)(targets(kind) > 0 ? below(at->count) : 0);
+    s[3] = (uint8_t)(targets(kind) > 1 ? below(at->count) : 0);
+    put(s + 4, kind == ACASE ? at->set & draw64() : kind == SPEND ? below(4) : 0, 8);
+}
+
+/* Rule 4 in a step. */
+static bool break_fields(struct file *f, unsigned clause)
+{
+    struct place at;
+
+    if (!find_step(f, &at)) {
+        return false;
+    }
+    const uint8_t kind = at.step[0];
+    switch (clause) {
+    case 0:
+        at.step[0] = (uint8_t)(chance(50) ? 0 : between(9, chance(50) ? 9 : 255));
+        return true;
+    case 1:
+        at.step[1] = (uint8_t)(kind == INS ? between(64, chance(50) ? 64 : 255) : between(1, 255));
+        return true;
+    case 2: /* a target not used */
+        if (targets(kind) == 2) {
+            return false;
+        }
+        spoil(at.step, targets(kind) == 1 ? 3 : 2, 3, 1, 255);
+        return true;
+    default: /* operand not used, or a spend above 32 bits */
+        if (kind == ACASE) {
+            return false;
+        }
+        if (kind == SPEND && chance(50)) {
+            put(at.step + 4, UINT64_C(0x100000000) + below(3), 8);
+            return true;
+        }
+        spoil(at.step, 4, kind == SPEND ? 7 : 11, 1, 255);
+        return true;
+    }
+}
+
+/* Rules 6 to 9 in a step. */
+static bool break_step(struct file *f, unsigned clause)
+{
+    struct place at;
+
+    if (!find_step(f, &at)) {
+        return false;
+    }
+    const uint8_t kind = at.step[0];
+    const unsigned used = targets(kind);
+    uint8_t *target = at.step + 2 + (used == 2 ? below(2) : 0);
+    switch (clause) {
+    case 0: /* a target outside */
+        *target = (uint8_t)between(at.count, chance(50) ? at.count : 255);
+        return used > 0;
+    case 1: /* a target not later */
+        *target = (uint8_t)below(at.offset + 1);
+        return used > 0;
+    case 2: /* any target inside */
+        *target = (uint8_t)below(at.count);
+        return used > 0;
+    case 3: { /* take and done exchanged, yes and no exchanged */
+        const uint8_t first = at.step[2];
+        at.step[2] = at.step[3];
+        at.step[3] = first;
+        return used == 2;
+    }
+    case 4:
+        turn_step(&at, (uint8_t)between(NEXT, HALT));
+        return true;
+    case 5: /* the same fields under another kind */
+        at.step[0] = (uint8_t)(kind == OK    ? SUP
+                               : kind == SUP ? OK
+                               : kind == END ? HALT
+                               : kind == HALT ? END
+                               : kind == NEXT ? SPEND
+                               : kind == SPEND ? ACASE
+                                               : kind);
+        return true;
+    case 6: /* another insert */
+        at.step[1] = (uint8_t)below(10);
+        return kind == INS;
+    default: { /* two steps exchanged */
+        uint8_t *other = at.own + 12u * below(at.count);
+        for (unsigned i = 0; i < 12; i++) {
+            const uint8_t byte = at.step[i];
+            at.step[i] = other[i];
+            other[i] = byte;
+        }
+        return true;
+    }
+    }
+}
+
+/* Rules 6 and 8 in an acase: a set that isn't inside the leaf's set; a branch
+ * that no possible action takes. */
+static bool break_acase(struct file *f)
+{
+    struct place at;
+
+    if (!find_kind(f, &at, ACASE)) {
+        return false;
+    }
+    const uint64_t set = get(at.step + 4, 8);
+    const uint64_t noise = draw64();
+    const uint64_t sets[] = {set | UINT64_C(1) << (noise & 63), noise, at.set, 0,
+                             at.set & noise, set ^ (at.set & noise)};
+    put(at.step + 4, sets[below(6)], 8);
+    return true;
+}
+
+/* A step count moved from one leaf to another: the sum holds. */
+static bool move_count(struct file *f)
+{
+    const unsigned n = f->bytes[3];
+    uint8_t *from = file_node(f, below(n));
+    uint8_t *to = file_node(f, below(n));
+
+    if (from == to || from[0] != LEAF || to[0] != LEAF || from[3] < 2 || to[3] > 63) {
+        return false;
+    }
+    from[3]--;
+    to[3]++;
+    return true;
+}
+
+static bool break_file(struct file *f)
+{
+    static const unsigned SHARES[] = {12, 10, 9, 14, 12, 3, 4, 14, 26, 9, 4};
+    unsigned flip;
+
+    switch (pick_weighted(SHARES, 11)) {
+    case 0:
+        return break_header(f, below(10));
+    case 1: /* rule 4 in a node */
+        return break_node(f, below(7));
+    case 2: /* rule 5 */
+        return break_child(f, below(5));
+    case 3: /* rules 6, 8, 9 and 10 in a node */
+        return change_node(f, below(4));
+    case 4:
+        return break_fields(f, below(4));
+    case 5:
+        return move_count(f);
+    case 6:
+        flip = 1u << below(8);
+        f->bytes[below((unsigned)f->length)] ^= (uint8_t)flip;
+        return true;
+    case 7:
+        return break_acase(f);
+    case 8:
+        return break_step(f, below(8));
+    case 9:
+        return break_tree(f, below(3));
+    default:
+        return break_sum(f);
+    }
+}
+
+/* ------------------------------------------------------------------ */
+/* What a batch is made of.                                             */
+
+static void fresh_state(struct session *s)
+{
+    if (chance(50)) {
+        pattern(s->state, sizeof s->state);
+    } else {
+        draw_state(s, 80);
+    }
+}
+
+/* A run of the guard: open, offers, close; here and there a call that is to be
+ * refused, which leaves the state as it was. */
+static void draw_run(struct session *s)
+{
+    draw_good(s);
+    right_buffers(s);
+    if (chance(15)) {
+        call(s, CHECK, (uint8_t)below(256));
+    }
+    fresh_state(s);
+    call(s, OPEN, (uint8_t)below(256));
+    for (unsigned offers = between(1, 14); offers > 0 && calls_left > 0; offers--) {
+        if (chance(3)) {
+            wrong_buffers(s);
+            call_with_action(s, between(OPEN, CLOSE));
+            right_buffers(s);
+        }
+        const guard_answer answer = call_with_action(s, OFFER);
+        if (answer.refusal == 14 || (s->state[0] != GUARD_RUNNING && chance(70))) {
+            break;
+        }
+    }
+    if (chance(80)) {
+        call(s, CLOSE, (uint8_t)below(256));
+        if (chance(15)) {
+            call_with_action(s, chance(70) ? OFFER : CLOSE);
+        }
+    }
+}
+
+/* Fitting states that no run need reach. */
+static void draw_anywhere(struct session *s)
+{
+    draw_good(s);
+    for (unsigned times = between(1, 5); times > 0; times--) {
+        right_buffers(s);
+        draw_state(s, 92);
+        call_with_action(s, chance(75) ? OFFER : CLOSE);
+        if (chance(40)) {
+            call_with_action(s, chance(60) ? OFFER : CLOSE);
+        }
+    }
+}
+
+static void draw_unfit(struct session *s)
+{
+    draw_good(s);
+    for (unsigned times = between(1, 4); times > 0; times--) {
+        right_buffers(s);
+        do {
+            draw_state(s, 75);
+        } while (!break_state(s, below(12)));
+        if (chance(5)) {
+            wrong_buffers(s);
+        }
+        call_with_action(s, chance(70) ? OFFER : CLOSE);
+    }
+}
+
+static void any_call(struct session *s)
+{
+    right_buffers(s);
+    if (chance(10)) {
+        wrong_buffers(s);
+    }
+    fresh_state(s);
+    call_with_action(s, chance(55) ? CHECK : between(OPEN, CLOSE));
+}
+
+static void draw_broken(struct session *s)
+{
+    draw_good(s);
+    const struct file good = s->file;
+    for (unsigned times = between(1, 5); times > 0; times--) {
+        do {
+            s->file = good;
+        } while (!break_file(&s->file));
+        if (chance(20) && s->file.length == good.length &&
+            memcmp(s->file.bytes, good.bytes, 6) == 0) {
+            (void)break_file(&s->file); /* two at once: the lower number is due */
+        }
+        any_call(s);
+    }
+}
+
+/* Files aimed at rules 9 and 10 by their making. */
+static void draw_wide(struct session *s)
+{
+    if (chance(30)) {
+        grow_storm(&s->policy);
+    } else if (chance(30)) {
+        grow_sum(&s->policy);
+    } else {
+        grow_policy(&s->policy, between(256, 3000));
+    }
+    if (chance(30)) {
+        for (unsigned k = 0; k < s->policy.n; k++) {
+            if (s->policy.nodes[k].kind >= PAR_AND && chance(50)) {
+                s->policy.nodes[k].kind = (uint8_t)between(PAR_AND, SEQ_OR);
+            }
+        }
+    }
+    write_file(&s->file, &s->policy);
+    s->sets = guard_check(s->file.bytes, s->file.length);
+    any_call(s);
+}
+
+/* Bytes by chance, some under a header that agrees. */
+static void draw_noise(struct session *s)
+{
+    struct file *f = &s->file;
+    const unsigned n = between(1, 3);
+    const unsigned m = below(6);
+
+    draw_good(s);
+    f->length = chance(50) ? below(200) : 6 + 16u * n + 12u * m;
+    for (size_t i = 0; i < f->length; i++) {
+        f->bytes[i] = (uint8_t)(chance(50) ? below(9) : below(256));
+    }
+    if (chance(70) && f->length >= 6) {
+        fix_length(f);
+        f->bytes[2] = 1;
+        f->bytes[3] = (uint8_t)n;
+        put(f->bytes + 4, m, 2);
+    }
+    any_call(s);
+}
+
+int main(int argc, char **argv)
+{
+    static struct session s;
+    static const unsigned SHARES[] = {38, 23, 9, 19, 7, 4};
+
+    if (argc != 3) {
+        fputs("draw SEED COUNT\n", stderr);
+        return 2;
+    }
+    seed_word = (strtoull(argv[1], NULL, 10) + 1) * UINT64_C(0x9E3779B97F4A7C15);
+    seed_word = seed_word == 0 ? 1 : seed_word;
+    calls_left = strtoul(argv[2], NULL, 10);
+    while (calls_left > 0) {
+        switch (pick_weighted(SHARES, 6)) {
+        case 0:
+            draw_run(&s);
+            break;
+        case 1:
+            draw_anywhere(&s);
+            break;
+        case 2:
+            draw_unfit(&s);
+            break;
+        case 3:
+            draw_broken(&s);
+            break;
+        case 4:
+            draw_wide(&s);
+            break;
+        default:
+            draw_noise(&s);
+            break;
+        }
+    }
+    return fflush(stdout) == 0 ? 0 : 1;
+}

@@ -1,0 +1,75 @@
+/* guard.h: the four entry points of the policy guard of 01, over plain buffers with lengths. */
+#ifndef GUARD_H
+#define GUARD_H
+
+#include <stddef.h>
+#include <stdint.h>
+
+#define GUARD_MAX_NODES 31u
+#define GUARD_STATE_BYTES 248u /* "State: 248 bytes, 8 per node number" */
+#define GUARD_EVENT_BYTES 512u /* "event buffer is under 512" is refused */
+
+/* "1 running, 2 ended, 3 ended left, 4 ended right, 5 halted, 6 dropped." */
+enum guard_status {
+    GUARD_RUNNING = 1,
+    GUARD_ENDED = 2,
+    GUARD_ENDED_LEFT = 3,
+    GUARD_ENDED_RIGHT = 4,
+    GUARD_HALTED = 5,
+    GUARD_DROPPED = 6
+};
+
+/* "Events are two bytes: 1 accepted, 2 suppressed, 3 inserted; then the action." */
+enum guard_event { GUARD_ACCEPTED = 1, GUARD_SUPPRESSED = 2, GUARD_INSERTED = 3 };
+
+/* "A set is 64 bits, bit a standing for action a." */
+typedef struct {
+    uint64_t bits;
+} guard_set;
+
+/* "The check's answer carries either the root's two sets or a refusal number."
+ * refusal is 0, or 1 to 10; with a refusal both sets are empty. */
+typedef struct {
+    uint8_t refusal;
+    guard_set regulated;
+    guard_set effect;
+} guard_sets;
+
+/* "The answer is the event count and the root's status."
+ * refusal is 0, or 1 to 14; with a refusal events and status are 0 and both
+ * buffers keep every byte. */
+typedef struct {
+    uint8_t refusal;
+    uint8_t status;
+    uint16_t events;
+} guard_answer;
+
+/* The state and event buffers must not overlap each other or the policy.
+ * A buffer of length 0 may be a null pointer. */
+
+/* Refusals 1 to 10. Writes nothing. */
+guard_sets guard_check(const uint8_t *policy, size_t policy_length);
+
+/* Refusals 1 to 11. Overwrites the whole state; what it held is not read. */
+guard_answer guard_open(const uint8_t *policy, size_t policy_length,
+                        uint8_t *state, size_t state_length,
+                        uint8_t *events, size_t events_length);
+
+/* Refusals 1 to 14. */
+guard_answer guard_offer(const uint8_t *policy, size_t policy_length,
+                         uint8_t *state, size_t state_length,
+                         uint8_t *events, size_t events_length, uint8_t action);
+
+/* Refusals 1 to 12. */
+guard_answer guard_close(const uint8_t *policy, size_t policy_length,
+                         uint8_t *state, size_t state_length,
+                         uint8_t *events, size_t events_length);
+
+#ifdef GUARD_TALLY
+/* Counts of inserts given to a right side, for the statistics of a draw only:
+ * kind 5 accepted, suppressed, halted; kind 7 the same; then nodes decided by
+ * an insert, kind 5 and kind 7. */
+extern unsigned long guard_tally[8];
+#endif
+
+#endif

@@ -1,0 +1,168 @@
+/* stats.c: reads a batch on standard input, makes its calls and prints statistics of the draw. */
+#include "guard.h"
+
+#include <stdbool.h>
+#include <stdio.h>
+
+#ifndef GUARD_TALLY
+#error "build with -DGUARD_TALLY, guard.c too"
+#endif
+
+enum { MAX_FIELD = 65535 };
+
+struct field {
+    size_t length;
+    uint8_t bytes[MAX_FIELD];
+};
+
+static struct field policy, state, events;
+
+static struct {
+    unsigned long calls, answered, with_events, changing;
+    unsigned long entries[4], answered_by[4], refusals[15], statuses[7];
+    unsigned long kinds[8], nodes[32], steps[6], step_kinds[9], status_by_node[7];
+    unsigned long event_counts[12], event_kinds[4], most_events, verdict_halts;
+} seen;
+
+static bool read_field(struct field *field)
+{
+    const int high = getchar();
+    const int low = getchar();
+
+    if (high == EOF || low == EOF) {
+        return false;
+    }
+    field->length = (size_t)high << 8 | (size_t)low;
+    return fread(field->bytes, 1, field->length, stdin) == field->length;
+}
+
+/* Nodes and steps of a policy that passed. */
+static void count_policy(void)
+{
+    const unsigned n = policy.bytes[3];
+    const unsigned m = (unsigned)policy.bytes[4] << 8 | policy.bytes[5];
+
+    seen.nodes[n]++;
+    seen.steps[m == 0 ? 0 : m < 16 ? 1 : m < 64 ? 2 : m < 256 ? 3 : m < 512 ? 4 : 5]++;
+    for (unsigned k = 0; k < n; k++) {
+        seen.kinds[policy.bytes[6 + 16 * k]]++;
+    }
+    for (unsigned s = 0; s < m; s++) {
+        seen.step_kinds[policy.bytes[6 + 16 * n + 12 * s]]++;
+    }
+}
+
+static unsigned bucket(unsigned count)
+{
+    static const unsigned TOPS[] = {0, 1, 2, 3, 4, 7, 15, 31, 63, 127, 254, 256};
+    unsigned b = 0;
+
+    while (count > TOPS[b]) {
+        b++;
+    }
+    return b;
+}
+
+static void count_answer(int entry, guard_answer answer, bool changed)
+{
+    seen.calls++;
+    seen.entries[entry]++;
+    seen.refusals[answer.refusal]++;
+    if (answer.refusal != 0) {
+        return;
+    }
+    seen.answered++;
+    seen.answered_by[entry]++;
+    count_policy();
+    if (entry == 0) {
+        return;
+    }
+    seen.statuses[answer.status]++;
+    seen.with_events += answer.events > 0;
+    seen.changing += changed || answer.events > 1;
+    seen.event_counts[bucket(answer.events)]++;
+    if (answer.events > seen.most_events) {
+        seen.most_events = answer.events;
+    }
+    bool verdict = false;
+    for (unsigned i = 0; i < answer.events; i++) {
+        seen.event_kinds[events.bytes[2 * i]]++;
+        verdict = verdict || events.bytes[2 * i] != GUARD_INSERTED;
+    }
+    seen.verdict_halts += entry == 2 && !verdict;
+}
+
+static bool one_call(int entry)
+{
+    static uint8_t before[MAX_FIELD];
+    guard_answer answer = {0, 0, 0};
+
+    if (!read_field(&policy) || !read_field(&state) || !read_field(&events)) {
+        return false;
+    }
+    const int action = getchar();
+    for (size_t i = 0; i < state.length; i++) {
+        before[i] = state.bytes[i];
+    }
+    if (entry == 0) {
+        answer.refusal = guard_check(policy.bytes, policy.length).refusal;
+    } else if (entry == 1) {
+        answer = guard_open(policy.bytes, policy.length, state.bytes, state.length,
+                            events.bytes, events.length);
+    } else if (entry == 2) {
+        answer = guard_offer(policy.bytes, policy.length, state.bytes, state.length,
+                             events.bytes, events.length, (uint8_t)action);
+    } else {
+        answer = guard_close(policy.bytes, policy.length, state.bytes, state.length,
+                             events.bytes, events.length);
+    }
+    bool changed = false;
+    for (size_t i = 0; i < state.length; i++) {
+        changed = changed || before[i] != state.bytes[i];
+    }
+    count_answer(entry, answer, changed);
+    return true;
+}
+
+static void print_row(const char *name, const unsigned long *counts, unsigned from, unsigned to)
+{
+    printf("%s:", name);
+    for (unsigned i = from; i <= to; i++) {
+        if (counts[i] != 0) {
+            printf(" %u:%lu", i, counts[i]);
+        }
+    }
+    printf("\n");
+}
+
+int main(void)
+{
+    for (int entry = getchar(); entry != EOF; entry = getchar()) {
+        if (entry > 3 || !one_call(entry)) {
+            fputs("stats: broken input\n", stderr);
+            return 1;
+        }
+    }
+    printf("calls %lu, answered %lu, with events %lu, changing state or more than one event %lu\n",
+           seen.calls, seen.answered, seen.with_events, seen.changing);
+    print_row("calls by entry (0 check, 1 open, 2 offer, 3 close)", seen.entries, 0, 3);
+    print_row("answered by entry", seen.answered_by, 0, 3);
+    print_row("refusals", seen.refusals, 1, 14);
+    print_row("root statuses answered", seen.statuses, 1, 5);
+    print_row("events (1 acc, 2 sup, 3 ins)", seen.event_kinds, 1, 3);
+    print_row("events per answered call, in 0 1 2 3 4 -7 -15 -31 -63 -127 -254 -256",
+              seen.event_counts, 0, 11);
+    printf("most events in a call %lu; offers without a verdict %lu\n", seen.most_events,
+           seen.verdict_halts);
+    print_row("node kinds in answered calls", seen.kinds, 1, 7);
+    print_row("step kinds in answered calls", seen.step_kinds, 1, 8);
+    print_row("nodes per answered call", seen.nodes, 1, 31);
+    print_row("steps, in 0 -15 -63 -255 -511 512", seen.steps, 0, 5);
+    printf("inserts given on, kind 5: accepted %lu, suppressed %lu, halted %lu\n",
+           guard_tally[0], guard_tally[1], guard_tally[2]);
+    printf("inserts given on, kind 7: accepted %lu, suppressed %lu, halted %lu\n",
+           guard_tally[3], guard_tally[4], guard_tally[5]);
+    printf("nodes decided by an insert: kind 5 %lu, kind 7 %lu\n", guard_tally[6],
+           guard_tally[7]);
+    return 0;
+}
