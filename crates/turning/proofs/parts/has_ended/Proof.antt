@@ -1,0 +1,28 @@
+use mathlib.Core.Path.{_≡_, refl, sym, ap, ap₂, _∙_, subst}
+use mathlib.Core.Bool.{Bool, true, false}
+use Prim.Native.Nat.{ℕ}
+use Rattle.turns.specs.Status.{Status, statusOf, isRunning, isHalted, hasEnded, joined}
+use Rattle.turning.proofs.StatusBytes.{not-ended}
+use borrow.Author.Needs.{needs}
+use Rattle.turning.proofs.parts.has_ended.Statement.{statement}
+use Rattle.turning.proofs.parts.has_ended.Tie as tie
+use Rattle.turning.proofs.parts.has_ended.Reads as reads
+use Rattle.turning.proofs.parts.has_ended.Lts as lts
+
+returns : tie.Need-returns
+unfolding hasEnded statusOf
+returns c = sym (ap (λ (n : ℕ). hasEnded (statusOf n)) (c .if1 .taken))
+
+returns-2 : tie.Need-returns-2
+unfolding hasEnded statusOf
+returns-2 c = sym (ap (λ (n : ℕ). hasEnded (statusOf n)) (c .if2 .taken))
+
+returns-3 : tie.Need-returns-3
+unfolding hasEnded statusOf
+returns-3 c = sym (ap (λ (n : ℕ). hasEnded (statusOf n)) (c .if3 .taken))
+
+returns-4 : tie.Need-returns-4
+returns-4 c = sym (not-ended _ (c .before .before .if1 .left) (c .before .if2 .left) (c .if3 .left))
+
+pub has-ended-spec : {M : Type 1} → statement M
+has-ended-spec = tie.close (tie.spec returns returns-2 returns-3 returns-4)

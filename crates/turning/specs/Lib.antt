@@ -1,0 +1,9 @@
+pub mod Run
+pub mod Memory
+pub mod Cells
+pub mod Leaf
+pub mod Tables
+pub mod Tidy
+pub mod Awaken
+pub mod Promises
+pub mod Turning
