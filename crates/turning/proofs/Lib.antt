@@ -19,3 +19,4 @@ pub mod Written
 pub mod Nodes
 pub mod StartLaws
 pub mod TurnCalls
+pub mod DriveLaws

@@ -7,3 +7,4 @@ pub mod Tidy
 pub mod Awaken
 pub mod Promises
 pub mod Turning
+pub mod Drives
