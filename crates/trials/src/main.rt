@@ -1,0 +1,77 @@
+// Reads a batch of calls on standard input and writes their answers on standard output, both in bytes, to be compared with another
+// guard's. What can be said of bytes is said in `calls` and `answers`; what is here only reads and writes.
+ghost use mathlib.Core.Path.{_≡_};
+ghost use Prim.Native.Nat.{_≤_};
+ghost use lib.ListN.{length};
+ghost use Rattle.trials.specs.Calls.{longest, Placed, Taken};
+use crate::answers::policy_answer;
+use crate::calls::Call;
+use crate::calls::Parts;
+use crate::calls::find;
+use libc::STDIN_FILENO;
+use libc::STDOUT_FILENO;
+
+mod answers;
+mod calls;
+
+// Room for the longest call.
+fn room() -> [u8; 196613]
+    ensures { λ r. ⌜ longest ≡ length r ⌝ }
+{
+    [0; 196613]
+}
+
+// Reads the next call to the start of batch, and no byte after it. Short: the input has ended.
+fn read_call(batch: &mut [u8]) -> Call
+    requires { ⌜ longest ≤ length (now batch) ⌝ }
+    ensures { λ r. ⌜ Taken (now (batch .exit)) r ⌝ }
+{
+    let mut have = 0;
+    loop {
+        let found = find(batch, have);
+        match found {
+            Call::Whole(parts) => {
+                return Call::Whole(parts);
+            }
+            Call::Short(wanted) => {
+                if io::read_full(STDIN_FILENO, &mut batch[have..wanted]) != wanted - have {
+                    return Call::Short(wanted);
+                }
+                have = wanted;
+            }
+        }
+    }
+}
+
+// Writes the answer, and says whether there was one. Every entry has the check's until the others have code.
+fn answer(batch: &[u8], parts: Parts) -> bool
+    requires { ⌜ Placed (now batch) parts ⌝ }
+{
+    let entry = parts.entry;
+    match entry {
+        0..=3 => {
+            let bytes = policy_answer(batch, parts);
+            io::write_all(STDOUT_FILENO, &bytes)
+        }
+        _ => false,
+    }
+}
+
+fn answer_next(batch: &mut [u8]) -> bool
+    requires { ⌜ longest ≤ length (now batch) ⌝ }
+{
+    let call = read_call(batch);
+    match call {
+        Call::Whole(parts) => answer(batch, parts),
+        Call::Short(_) => false,
+    }
+}
+
+// A proved loop has to end, and nothing says that the input does: the loop counts down from a number that no run uses up.
+fn main() {
+    let mut batch = room();
+    let mut turns = u64::MAX;
+    while turns > 0 && answer_next(&mut batch) {
+        turns -= 1;
+    }
+}
