@@ -7,8 +7,10 @@ pub mod States
 pub mod Walk
 pub mod Fuel
 pub mod Count
+pub mod Costs
 pub mod Spread
 pub mod Steps
+pub mod Work
 pub mod Throughout
 pub mod Answered
 pub mod Lasting

@@ -39,7 +39,7 @@ steps-count p = sym (count-items (worth 1 0 0) p ∙ valued-steps (items (trace 
 
 -- ---- how many steps are ahead
 
-step-prices : (code : List Step) → prices 1 0 code ≤ length code
+pub step-prices : (code : List Step) → prices 1 0 code ≤ length code
 unfolding prices price
 step-prices [] = zero-le
 step-prices (k ∷ code) = omega (arith, none-le (isNext k) 1, step-prices code)
