@@ -11,7 +11,7 @@ use Rattle.policy.specs.Lists.{summed}
 use Rattle.policy.specs.Records.{nodeSize, Node, nodeCount, stepCount, nodeAt, nodePlace, nodes}
 use Rattle.policy.specs.Steps.{Step, halt, isNext}
 use Rattle.policy.specs.Tree.{Way, Join, NodeKind, aLeaf, aTrivial, anUnsatisfiable, aPair, noNode, nodeKind, owned, places, leaf, trivial, unsatisfiable, node, numberOf}
-use Rattle.rules.proofs.Passed.{Passed}
+use Rattle.rules.specs.Passed.{Passed}
 use Rattle.rules.proofs.Grown.{placeIn, nodeIn, shaped, grown-is}
 use Rattle.rules.proofs.Numbers.{tree-at, node-in, ChildrenLater, children-later}
 use Rattle.policy.specs.Tree.{treeAt}

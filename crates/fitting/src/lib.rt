@@ -9,7 +9,7 @@ ghost use Rattle.policy.specs.Lists.{among, every};
 ghost use Rattle.policy.specs.Records.{mostNodes, nodeCount, stepCount, nodeAt, nodePlace};
 ghost use Rattle.policy.specs.Tree as spec;
 ghost use Rattle.policy.specs.Tree.{treeAt};
-ghost use Rattle.rules.proofs.Passed.{Passed};
+ghost use Rattle.rules.specs.Passed.{Passed};
 ghost use Rattle.reading.specs.Kinds.{joinOf};
 ghost use Rattle.reading.specs.Code.{codeAt};
 ghost use Rattle.checking.specs.First.{firstStep};

@@ -13,7 +13,7 @@ use Rattle.policy.specs.Lists.{every}
 use Rattle.policy.specs.Steps.{Step, halt, targets, isNext}
 use Rattle.policy.proofs.ListLaws.{everyAt-from-0}
 use Rattle.rules.specs.Targets.{targetFits, asksWithin, targetsFit}
-use Rattle.rules.proofs.Lawful.{Ahead, AllAhead, Inside, Forward}
+use Rattle.rules.specs.Lawful.{Ahead, AllAhead, Inside, Forward}
 
 -- ---- lists
 

@@ -15,10 +15,10 @@ use Rattle.rules.specs.Targets.{targetsFit, broken6}
 use Rattle.rules.specs.Modes.{modesFit, broken7}
 use Rattle.rules.specs.Interference.{effects, interfere, apart, broken9}
 use Rattle.rules.specs.Spread.{spread, narrow, broken10}
-use Rattle.rules.proofs.Lawful.{LawfulLeaf, holds, Spared, Lawful}
+use Rattle.rules.specs.Lawful.{LawfulLeaf, holds, Spared, Lawful}
 use Rattle.rules.proofs.Grown.{nodeIn, placeIn, EachLeaf, grown-leaves}
 use Rattle.rules.proofs.Numbers.{Distinct, distinct, numbers-below}
-use Rattle.rules.proofs.Passed.{Passed}
+use Rattle.rules.specs.Passed.{Passed}
 use Rattle.rules.proofs.InsFits.{insFits}
 use Rattle.rules.proofs.Leaves.{lawful-leaf}
 use Rattle.rules.proofs.Rows.{counts-fit, leaf-at, ins-fit, leaf-steps}

@@ -19,7 +19,7 @@ use Rattle.rules.specs.Targets.{targetsFit}
 use Rattle.rules.specs.Modes.{Mode, idle, pending, closing, stands, leads, Reached, first, led, modesFit}
 use Rattle.rules.specs.Possible.{CanBe, taken, past-ins, spent, unspent, in-case, off-case, possible, possibleAt}
 use Rattle.rules.specs.Interference.{stepEffects, codeEffects, leafEffects}
-use Rattle.rules.proofs.Lawful.{reachedIn, Sub, Follows, LawfulLeaf}
+use Rattle.rules.specs.Lawful.{reachedIn, Sub, Follows, LawfulLeaf}
 use Rattle.rules.proofs.InsFits.{insFits}
 use Rattle.rules.proofs.Ahead.{in-or-out, out-of, forward, inside}
 use Rattle.rules.proofs.Modes.{idle-only, pending-only, modes-real, modes-found}

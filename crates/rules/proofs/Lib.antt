@@ -1,4 +1,3 @@
-pub mod Lawful
 pub mod Ahead
 pub mod Modes
 pub mod Possible

@@ -15,7 +15,7 @@ use Rattle.policy.specs.Steps.{Step, next, ok, sup, ins, acase, spend, end, hal
 use Rattle.rules.specs.Targets.{targetsFit}
 use Rattle.rules.specs.Modes.{Mode, idle, pending, closing, isIdle, isPending, isClosing, sameMode, Mark, leads, Reached, first, waits, led}
 use Rattle.rules.specs.Modes.{marked, reachedBy, leadsIf, walked, marks}
-use Rattle.rules.proofs.Lawful.{reachedIn}
+use Rattle.rules.specs.Lawful.{reachedIn}
 use Rattle.rules.proofs.Ahead.{in-or-out, Suffix, whole, suffix-head, suffix-tail, out-of, never-back}
 
 -- ---- marks

@@ -17,7 +17,7 @@ use Rattle.policy.specs.Records.{Node, nodeAt, nodePlace, nodeCount, nodes, row
 use Rattle.policy.specs.Steps.{Step, stepOf}
 use Rattle.policy.specs.Tree.{Way, Join, NodeKind, aLeaf, aTrivial, anUnsatisfiable, aPair, noNode, nodeKind, owned, noPlace, placed, places, Tree, leaf, trivial, unsatisfiable, node, grown, treeAt, tree}
 use Rattle.rules.specs.Children.{later, children, oneParent, broken5}
-use Rattle.rules.proofs.Lawful.{holds, Disjoint, Numbered}
+use Rattle.rules.specs.Lawful.{holds, Disjoint, Numbered}
 use Rattle.rules.proofs.Grown.{placeIn, nodeIn, kindIn, shaped, shaped-same, grown-suc, grown-is}
 
 -- ---- how often n is a child

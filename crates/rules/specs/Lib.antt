@@ -7,5 +7,7 @@ pub mod Possible
 pub mod Interference
 pub mod Spread
 pub mod Check
+pub mod Passed
+pub mod Lawful
 pub mod Opened
 pub mod Examples

@@ -1,4 +1,4 @@
--- Every definition of this crate by one name: a proof that computes with them says `unfolding opened`. Assumes nothing.
+-- Every definition from which the check is computed, by one name: a proof by computation says `unfolding opened`. Assumes nothing.
 use Rattle.rules.specs.Layout.{broken1, broken2, broken3, nodeFits, noAction, noFirst, noSecond, noOperand, rowFits, broken4}
 use Rattle.rules.specs.Children.{later, children, oneParent, broken5}
 use Rattle.rules.specs.Leaves.{everyLeaf}

@@ -1,42 +1,43 @@
 -- The calls of the turn at a node of the file: what a side's turn is asked, and what it makes of the node's. Assumes nothing.
-use Prim.Native.Nat.{ℕ, suc, _+_, _≤_, _<_}
+use Prim.Native.Nat.{ℕ, _+_, _≤_, _<_}
 use native.Mathlib.Omega.{arith}
 use mathlib.Core.Path.{_≡_, refl, sym, ap, ap₂, _∙_, subst}
-use mathlib.Core.Bool.{Bool, true, false, _&&_, _||_, not}
+use mathlib.Core.Bool.{Bool, true, false, _&&_}
 use mathlib.Core.List.{List}
-use mathlib.Core.Logic.{_⊎_, inl, inr, ⊎-elim}
+use mathlib.Core.Logic.{_⊎_, ⊎-elim}
 use lib.ListN.{length, getD}
 use Rattle.actions.specs.Sets.{Action, has}
 use Rattle.policy.specs.Bytes.{Bytes}
-use Rattle.policy.specs.Records.{Node, nodePlace, nodeAt, nodeCount}
+use Rattle.policy.specs.Records.{nodePlace, nodeAt, nodeCount}
 use Rattle.policy.specs.Tree.{Way, parallel, sequential, Join, NodeKind, aLeaf, aPair, nodeKind, Tree, trivial, unsatisfiable, node, numberOf, regulated}
 use Rattle.rules.proofs.Grown.{shaped}
-use Rattle.rules.proofs.Lawful.{Numbered}
+use Rattle.rules.specs.Lawful.{Numbered}
 use Rattle.policy.specs.Tree.{treeAt}
 use Rattle.turns.specs.Status.{isRunning}
-use Rattle.reading.specs.Kinds.{wayOf, joinOf, kindOf}
+use Rattle.reading.specs.Kinds.{wayOf, kindOf}
 use Rattle.reading.specs.declared.Kind.{Kind}
 use Rattle.reading.specs.declared.Kind.the-variants as kinds
 use Rattle.reading.specs.declared.Way as declared
 use Rattle.reading.specs.declared.Way.the-variants as ways
 use Rattle.reading.specs.declared.Join as joins
-use Rattle.turning.specs.declared.leaf.Progress.{Progress}
-use Rattle.turning.specs.declared.leaf.Progress.the-variants.{Insert, Done}
-use Rattle.turning.specs.declared.parts.Fed.{Fed}
-use Rattle.turning.specs.declared.parts.Fed.the-variants.{Back, Yield, Over}
-use Rattle.turning.specs.declared.parts.Part.{Part}
-use Rattle.turning.specs.declared.parts.Part.the-variants.{Own, Ends}
-use Rattle.turning.specs.Run.{Run, cut, insertsOf}
-use Rattle.turning.specs.Memory.{Mem, rest}
-use Rattle.turning.specs.Promises.{Led, Went, Begins, Begun, Feeds, Was, FedOn, ahead, Second, Concluded, GivenOn, Parts, Owned, PassedOn, Finished, Firsts}
-use Rattle.turning.specs.Turning.{kindAt, leftAt, rightAt, joinOfKind, joinAt, wayOfKind, wayAt, Placed, Ready, Sided, Few}
-use Rattle.turning.proofs.FileNodes.{tree-read}
-use Rattle.turning.proofs.Runs.{ahead-more}
-use Rattle.turning.proofs.Frames.{same-or-not}
-use Rattle.turning.proofs.Steps as steps
-use Rattle.turning.proofs.Steps.{via, led-on, led-same, led-ahead, went-ahead, fed-ahead, fed-via}
-use Rattle.turning.proofs.Calls as calls
-use Rattle.turning.proofs.Nodes.{placed, number-at, Sides, sides, tree-is, numbered-here}
+use Rattle.memory.specs.declared.outcomes.Progress.{Progress}
+use Rattle.memory.specs.declared.outcomes.Progress.the-variants.{Insert, Done}
+use Rattle.memory.specs.declared.outcomes.Fed.{Fed}
+use Rattle.memory.specs.declared.outcomes.Fed.the-variants.{Back, Yield, Over}
+use Rattle.memory.specs.declared.outcomes.Part.{Part}
+use Rattle.memory.specs.declared.outcomes.Part.the-variants.{Own, Ends}
+use Rattle.memory.specs.Run.{Run, cut, insertsOf}
+use Rattle.memory.specs.Memory.{Mem, rest}
+use Rattle.memory.specs.Promises.{Led, Gives, Went, Begins, Begun, Feeds, Was, Fewer, Came, fedOf, FedOn, ahead, Second, Concluded, GivenOn, Parts, Owned, PassedOn, Finished, Firsts}
+use Rattle.sides.specs.Sides.{kindAt, leftAt, rightAt, joinOfKind, joinAt, wayOfKind, wayAt, Placed, Sided}
+use Rattle.starting.specs.Ready.{Ready, Few}
+use Rattle.tables.proofs.FileNodes.{tree-read}
+use Rattle.memory.proofs.Runs.{ahead-more}
+use Rattle.memory.proofs.Frames.{same-or-not}
+use Rattle.memory.proofs.Steps as steps
+use Rattle.memory.proofs.Steps.{via, led-on, led-same, led-ahead, went-ahead, fed-ahead}
+use Rattle.memory.proofs.Calls as calls
+use Rattle.sides.proofs.Nodes.{placed, number-at, Sides, sides, tree-is, numbered-here}
 
 -- ---- what a call met, by another name
 
@@ -59,14 +60,11 @@ stage-fed e f₀ f₁ f₄ f₅ l = (omega (arith, f₀, f₁), omega (arith, f�
 
 -- ---- the steps can be counted
 
-was-ahead : {t r : Tree} {m m′ : Mem} {n : ℕ} {x : Fed} → Was t r m m′ n x → n ≤ ahead (cut (rest t m))
+feeds-ahead : (t : Tree) (m m′ : Mem) (n : ℕ) (x : Fed) → Feeds t m m′ n x → n ≤ ahead (cut (rest t m))
 unfolding ahead
-was-ahead {t} {r} {m} {m′} {n} {x} w = on x (w .feeds)
-  where
-    on : (y : Fed) → Feeds t m m′ n y → n ≤ ahead (cut (rest t m))
-    on Back g = omega (arith, ap ahead (g .0), ahead-more n (cut (rest t m′)))
-    on (Yield c) g = omega (arith, ap ahead g)
-    on (Over u) g = omega (arith, ap ahead g)
+feeds-ahead t m m′ n Back g = omega (arith, ap ahead (g .0), ahead-more n (cut (rest t m′)))
+feeds-ahead t m m′ n (Yield c) g = omega (arith, ap ahead g)
+feeds-ahead t m m′ n (Over u) g = omega (arith, ap ahead g)
 
 -- what is ahead in the memory can be counted
 abbrev pub Counts : Tree → Mem → Type 0
@@ -80,14 +78,17 @@ module _ {t : Tree} {m m′ : Mem} {n : ℕ} (d : Led t m m′ n) (f : Counts t 
   few-went w = omega (arith, f, led-ahead d, went-ahead w)
 
   pub few-was : {r : Tree} {m″ : Mem} {q : ℕ} {x : Fed} → Was t r m′ m″ q x → n + q < 18446744073709551616
-  few-was w = omega (arith, f, led-ahead d, was-ahead w)
+  few-was {m″ = m″} {q = q} {x = x} w = omega (arith, f, led-ahead d, feeds-ahead t m′ m″ q x (w .feeds))
+
+  pub few-came : {l : Tree} {m″ : Mem} {q : ℕ} {x : Fed} → Came t l m′ m″ q x → n + q < 18446744073709551616
+  few-came {m″ = m″} {q = q} {x = x} w = omega (arith, f, led-ahead d, feeds-ahead t m′ m″ q x (w .feeds))
 
 module _ {t r : Tree} {m m′ : Mem} {n : ℕ} (d : FedOn t r m m′ n) (f : Counts t m) where
   pub few-fed : Counts t m′
   few-fed = omega (arith, f, fed-ahead d)
 
   pub few-fed-was : {m″ : Mem} {q : ℕ} {x : Fed} → Was t r m′ m″ q x → n + q < 18446744073709551616
-  few-fed-was w = omega (arith, f, fed-ahead d, was-ahead w)
+  few-fed-was {m″ = m″} {q = q} {x = x} w = omega (arith, f, fed-ahead d, feeds-ahead t m′ m″ q x (w .feeds))
 
 -- ---- a phase that was begun
 
@@ -102,6 +103,39 @@ module _ (policy : Bytes) (i : ℕ) {m m′ : Mem} {x : Bool} (b : Begun (treeAt
 
 pub begun-on : {t : Tree} {m m′ m″ : Mem} {n : ℕ} {x : Progress} → Led t m m′ 0 → Went t m′ m″ n x → Went t m m″ n x
 begun-on {t} {m} {m′} {m″} {n} {x} d w = subst (λ (q : ℕ). Went t m m″ q x) (omega arith) (via d w)
+
+-- ---- what came of a left side
+
+pub came-as : {t l : Tree} {m m′ : Mem} {n : ℕ} {y : Progress} → Went t m m′ n y → {x : Fed} → x ≡ fedOf y → Came t l m m′ n x
+unfolding fedOf
+came-as {t} {l} {m} {m′} {n} {y} w e = subst (λ (x : Fed). Came t l m m′ n x) (sym e) (on y (w .gives))
+  where
+    on : (z : Progress) → Gives t m m′ n z → Came t l m m′ n (fedOf z)
+    on (Insert b) g = record { feeds = g; kept = w .kept; fewer = tt }
+    on (Done u) g = record { feeds = g; kept = w .kept; fewer = tt }
+
+pub came-out : {t l : Tree} {m m′ : Mem} {n : ℕ} {b : Action} → Went t m m′ n (Insert b) → Came t l m m′ n (Yield b)
+unfolding fedOf
+came-out w = came-as w refl
+
+pub came-over : {t l : Tree} {m m′ : Mem} {n : ℕ} {u : Bool} → Went t m m′ n (Done u) → Came t l m m′ n (Over u)
+unfolding fedOf
+came-over w = came-as w refl
+
+module _ (policy : Bytes) (i : ℕ) {l : Tree} {m m′ : Mem} {n : ℕ} {x : Fed} (w : Came (treeAt policy i) l m m′ n x) where
+  pub came-back : x ≡ Back → Led (treeAt policy i) m m′ n × (m′ i .stage ≡ 1)
+  came-back e =
+      let g : Feeds (treeAt policy i) m m′ n Back = subst (λ (y : Fed). Feeds (treeAt policy i) m m′ n y) e (w .feeds) in
+      (record { leads = g .0; kept = w .kept }, ap (λ (k : ℕ). m′ k .stage) (sym (number-at policy i)) ∙ g .1)
+
+  pub came-fewer : x ≡ Back → length (insertsOf (rest l m′)) < length (insertsOf (rest l m))
+  came-fewer e = subst (λ (y : Fed). Fewer l m m′ y) e (w .fewer)
+
+  pub came-yield : {b : Action} → x ≡ Yield b → Went (treeAt policy i) m m′ n (Insert b)
+  came-yield e = record { gives = subst (λ (y : Fed). Feeds (treeAt policy i) m m′ n y) e (w .feeds); kept = w .kept }
+
+  pub came-done : {u : Bool} → x ≡ Over u → Went (treeAt policy i) m m′ n (Done u)
+  came-done e = record { gives = subst (λ (y : Fed). Feeds (treeAt policy i) m m′ n y) e (w .feeds); kept = w .kept }
 
 -- ---- the way that the code matched
 
@@ -257,17 +291,23 @@ module _ {policy sets firsts state work : List ℕ} {i : ℕ} (h : Ready policy 
         par-right-end g d = went-as (sym (here k)) refl (calls.concludes (joinAt policy i) (apart k) ea eb (s .0) (s .1) (at-side e g v) d)
 
   module _ (k : kindAt policy i ≡ aPair sequential (joinAt policy i)) where
+    -- what the right side's turn on an insert makes of the whole
+    module _ {m m′ : Mem} {n : ℕ} {x : Fed} (w : Was (treeAt policy i) (treeAt policy (rightAt policy i)) m m′ n x) where
+      pub fed-back : x ≡ Back → Led (treeAt policy i) m m′ n × (m′ i .stage ≡ 1)
+      fed-back f = let q = steps.was-back (joinAt policy i) (apart k) ea eb (was-as (here k) f w) in (led-as (sym (here k)) (q .0), q .1)
+
+      pub fed-yield : {b : Action} → x ≡ Yield b → Went (treeAt policy i) m m′ n (Insert b)
+      fed-yield f = went-as (sym (here k)) refl (steps.was-yield (joinAt policy i) (apart k) ea eb (was-as (here k) f w))
+
+      pub fed-over : {u : Bool} → x ≡ Over u → Went (treeAt policy i) m m′ n (Done u)
+      fed-over f = went-as (sym (here k)) refl (steps.was-over (joinAt policy i) (apart k) ea eb (was-as (here k) f w))
+
     -- the left side
     pub left-few : {x : ℕ} → x ≡ leftAt policy i → (m : Mem) → m i .stage ≡ 1 → Few policy i m → Few policy x m
     left-few e m s f = few-side k m e (steps.ahead-1 (joinAt policy i) (apart k) ea eb m s) f
 
     module _ {x : ℕ} (e : x ≡ leftAt policy i) {m : Mem} (s : m i .stage ≡ 1) where
       module _ {m′ : Mem} {n : ℕ} {y : Progress} (v : Went (treeAt policy x) m m′ n y) where
-        pub left-counts : {m₀ : Mem} {q : ℕ} → Led (treeAt policy i) m₀ m q → Few policy i m₀ → q + n < 18446744073709551616
-        left-counts {m₀} {q} d f =
-            let a = steps.ahead-1 (joinAt policy i) (apart k) ea eb m s in
-            omega (arith, f, led-ahead d, went-ahead v, a, ap (λ (t : Tree). ahead (cut (rest t m))) (here k), ap (λ (z : ℕ). ahead (cut (rest (treeAt policy z) m))) e)
-
         module _ {z : ℕ} (er : z ≡ rightAt policy i) {c : Action} (g : y ≡ Insert c) {o : Bool} (a : o ≡ (isRunning (m′ z .status) && has (getD sets z 0) c)) where
           asked : (isRunning (m′ (rightAt policy i) .status) && has (regulated (treeAt policy (rightAt policy i))) c) ≡ o
           asked = sym (a ∙ ap₂ (λ (p q : ℕ). isRunning (m′ p .status) && has q c) er (right-set k er .1))
@@ -283,12 +323,23 @@ module _ {policy sets firsts state work : List ℕ} {i : ℕ} (h : Ready policy 
             pub left-given : Led (treeAt policy i) m m″ n
             left-given = led-as (sym (here k)) (given .0)
 
-            pub left-less : {m‴ : Mem} {q : ℕ} {b : Fed} → Was (treeAt policy i) (treeAt policy (rightAt policy i)) m″ m‴ q b
-                → length (insertsOf (rest (treeAt policy x) m‴)) < length (insertsOf (rest (treeAt policy x) m))
-            left-less {m‴} w =
-                subst (λ (z : ℕ). length (insertsOf (rest (treeAt policy z) m‴)) < length (insertsOf (rest (treeAt policy z) m))) (sym e)
-                (subst (λ (p : Run). length (insertsOf p) < length (insertsOf (rest (treeAt policy (leftAt policy i)) m)))
-                (sym (steps.was-left (joinAt policy i) (apart k) ea eb (was-as (here k) refl w))) (given .1))
+            -- and once the right side's turn on it has gone on
+            pub left-fed : {m‴ : Mem} {q : ℕ} {b : Fed} → Was (treeAt policy i) (treeAt policy (rightAt policy i)) m″ m‴ q b
+                → Came (treeAt policy i) (treeAt policy (leftAt policy i)) m m‴ (n + q) b
+            left-fed {m‴} {q} {b} w = on b w
+              where
+                on : (y : Fed) → Was (treeAt policy i) (treeAt policy (rightAt policy i)) m″ m‴ q y
+                    → Came (treeAt policy i) (treeAt policy (leftAt policy i)) m m‴ (n + q) y
+                on Back w =
+                    let d = led-on left-given (fed-back w refl .0) in
+                    record {
+                      feeds = (d .leads, w .feeds .1);
+                      kept = d .kept;
+                      fewer = subst (λ (p : Run). length (insertsOf p) < length (insertsOf (rest (treeAt policy (leftAt policy i)) m)))
+                          (sym (steps.was-left (joinAt policy i) (apart k) ea eb (was-as (here k) refl w))) (given .1);
+                    }
+                on (Yield c) w = came-out (via left-given (fed-yield w refl))
+                on (Over u) w = came-over (via left-given (fed-over w refl))
 
         module _ {u : Bool} (g : y ≡ Done u) {m″ : Mem} {p : Part} (d : Parts (joinAt policy i) i (leftAt policy i) (rightAt policy i) u m′ m″ p) where
           pub left-own : p ≡ Own → Led (treeAt policy i) m m″ n × (m″ i .stage ≡ 4)
@@ -349,17 +400,6 @@ module _ {policy sets firsts state work : List ℕ} {i : ℕ} (h : Ready policy 
 
             pub first-over : o ≡ false → Went (treeAt policy i) m m″ n (Done false)
             first-over f = went-as (sym (here k)) refl (calls.firsts-end (joinAt policy i) (apart k) ea eb s (at-side e g v) (subst (λ (z : Bool). Firsts (joinAt policy i) i (leftAt policy i) (rightAt policy i) m′ m″ z) f d))
-
-    -- what the right side's turn on an insert makes of the whole
-    module _ {m m′ : Mem} {n : ℕ} {x : Fed} (w : Was (treeAt policy i) (treeAt policy (rightAt policy i)) m m′ n x) where
-      pub fed-back : x ≡ Back → Led (treeAt policy i) m m′ n × (m′ i .stage ≡ 1)
-      fed-back f = let q = steps.was-back (joinAt policy i) (apart k) ea eb (was-as (here k) f w) in (led-as (sym (here k)) (q .0), q .1)
-
-      pub fed-yield : {b : Action} → x ≡ Yield b → Went (treeAt policy i) m m′ n (Insert b)
-      fed-yield f = went-as (sym (here k)) refl (steps.was-yield (joinAt policy i) (apart k) ea eb (was-as (here k) f w))
-
-      pub fed-over : {u : Bool} → x ≡ Over u → Went (treeAt policy i) m m′ n (Done u)
-      fed-over f = went-as (sym (here k)) refl (steps.was-over (joinAt policy i) (apart k) ea eb (was-as (here k) f w))
 
     -- a node that was decided as an insert went out
     pub late-over : (m : Mem) → (m i .stage ≡ 0 → ⊥) → (m i .stage ≡ 1 → ⊥) → (m i .stage ≡ 4 → ⊥) → (m i .stage ≡ 5 → ⊥) → 5 < m i .stage → {u : Bool} → u ≡ m i .sup

@@ -9,7 +9,8 @@ use Rattle.actions.specs.Sets.{ActionSet}
 use Rattle.actions.proofs.Tests.{not-not, or-false-left, or-false-right}
 use Rattle.policy.specs.Bytes.{Bytes}
 use Rattle.rules.specs.Check.{Answer, passes, refused, check}
-use Rattle.rules.proofs.Passed.{Passed, passed}
+use Rattle.rules.specs.Passed.{Passed}
+use Rattle.rules.proofs.Passed.{passed}
 use Rattle.turns.specs.Status.{Status}
 use Rattle.turns.specs.Turn.{Request, opening, offer, close}
 use Rattle.turns.specs.Saved.{stateSize, fits}

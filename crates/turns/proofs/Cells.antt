@@ -14,7 +14,7 @@ use Rattle.policy.specs.Records.{mostNodes}
 use Rattle.policy.specs.Steps.{Step, halt, isNext}
 use Rattle.policy.specs.Tree.{Way, Join, Tree, leaf, trivial, unsatisfiable, node}
 use Rattle.policy.proofs.ByteLaws.{Small, small-append, put-small, spell-small, zeros-small, put-length, part-before, drop-after, part-inside, number-part, spell-length, spelt-of-spell}
-use Rattle.rules.proofs.Lawful.{holds, Disjoint, Numbered, Lawful}
+use Rattle.rules.specs.Lawful.{holds, Disjoint, Numbered, Lawful}
 use Rattle.turns.specs.Status.{Status, running, ended, endedLeft, endedRight, halted, dropped, statusNumber, statusOf}
 use Rattle.turns.specs.State.{State, at, over, status, offset, counter, leftOf, rightOf}
 use Rattle.turns.specs.Saved.{cellSize, stateSize, cellPlace, statusAt, offsetAt, zerosAt, counterAt, cell, load, store, saved}

@@ -11,7 +11,7 @@ use Rattle.policy.specs.Lists.{one}
 use Rattle.policy.specs.Steps.{Step, halt, isNext, isIns}
 use Rattle.policy.specs.Tree.{parallel, sequential, Join, Tree, leaf, trivial, unsatisfiable, node, regulated}
 use Rattle.rules.specs.Spread.{insCount, spreadOf, spread}
-use Rattle.rules.proofs.Lawful.{LawfulLeaf, Lawful}
+use Rattle.rules.specs.Lawful.{LawfulLeaf, Lawful}
 use Rattle.turns.specs.Status.{isRunning, isHalted, joined}
 use Rattle.turns.specs.State.{State, over, status, asked, offset, counter, leftOf, rightOf, drop, noded, settled}
 use Rattle.turns.specs.Process.{Item, ran, lets, sups, accepts, suppresses, Out, Process, stop, does, both, outcome}

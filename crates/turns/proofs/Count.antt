@@ -13,7 +13,7 @@ use Rattle.actions.proofs.Tests.{yes-of}
 use Rattle.policy.specs.Lists.{one}
 use Rattle.policy.specs.Steps.{Step, next, ok, sup, ins, acase, spend, end, halt, targets, isNext, isIns}
 use Rattle.policy.specs.Tree.{Join}
-use Rattle.rules.proofs.Lawful.{Ahead, AllAhead, Inside, Forward, LawfulLeaf}
+use Rattle.rules.specs.Lawful.{Ahead, AllAhead, Inside, Forward, LawfulLeaf}
 use Rattle.turns.specs.Status.{isRunning, joined}
 use Rattle.turns.specs.State.{State, status, asked, offset, leafOver, settled}
 use Rattle.turns.specs.Process.{Item, ran, lets, sups, accepts, suppresses, Out, Process, stop, does, both, then, outcome, items, trace}

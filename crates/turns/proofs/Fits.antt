@@ -16,7 +16,7 @@ use Rattle.policy.specs.Steps.{Step, halt, isNext}
 use Rattle.policy.specs.Tree.{Way, Join, and, or, Tree, leaf, trivial, unsatisfiable, node, numberOf, tree}
 use Rattle.policy.proofs.ListLaws.{every-drop}
 use Rattle.policy.proofs.ByteLaws.{drop-after, zeros-every, number-zeros}
-use Rattle.rules.proofs.Lawful.{holds}
+use Rattle.rules.specs.Lawful.{holds}
 use Rattle.turns.specs.Status.{Status, running, ended, endedLeft, endedRight, halted, dropped, statusNumber, statusOf, isRunning, hasEnded, isHalted, joined}
 use Rattle.turns.specs.State.{State, at, over, status, offset, counter, leftOf, rightOf}
 use Rattle.turns.specs.Saved.{stateSize, cellPlace, statusAt, offsetAt, zerosAt, counterAt, cell, load, store, saved, droppedWith, isRunningAt, statuses, undecided, bare}

@@ -11,7 +11,7 @@ use lib.Dec.{T}
 use lib.ListN.{length, getD}
 use Rattle.actions.specs.Sets.{Action, ActionSet, has}
 use Rattle.policy.specs.Steps.{Step, next, ok, sup, ins, acase, spend, end, halt, targets, isNext}
-use Rattle.rules.proofs.Lawful.{Ahead, AllAhead, Inside, Forward, LawfulLeaf}
+use Rattle.rules.specs.Lawful.{Ahead, AllAhead, Inside, Forward, LawfulLeaf}
 use Rattle.turns.specs.Status.{running}
 use Rattle.turns.specs.State.{State, at, offset, counter}
 use Rattle.turns.specs.Process.{Process, ran, lets, does}

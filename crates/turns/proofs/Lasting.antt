@@ -17,7 +17,7 @@ use Rattle.policy.proofs.ListLaws.{listed-at, listed-length}
 use Rattle.policy.proofs.ByteLaws.{Small, small-take, small-drop, spelt-less}
 use Rattle.rules.proofs.Grown.{placeIn, EachLeaf, grown-leaves}
 use Rattle.rules.proofs.Numbers.{noN, same-node}
-use Rattle.rules.proofs.Passed.{Passed}
+use Rattle.rules.specs.Passed.{Passed}
 use Rattle.rules.proofs.Rows.{counts-fit, leaf-steps}
 use Rattle.rules.proofs.LawfulTree.{lawful, numbers-below-nodes}
 use Rattle.turns.specs.Status.{Status, dropped, isDecided}

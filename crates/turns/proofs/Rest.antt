@@ -9,7 +9,7 @@ use Rattle.actions.specs.Sets.{ActionSet}
 use Rattle.policy.specs.Steps.{Step, halt, isNext}
 use Rattle.policy.specs.Tree.{Way, Join, and, or, Tree, leaf, trivial, unsatisfiable, node}
 use Rattle.rules.specs.Modes.{idle}
-use Rattle.rules.proofs.Lawful.{reachedIn}
+use Rattle.rules.specs.Lawful.{reachedIn}
 use Rattle.turns.specs.Status.{Status, running, ended, endedLeft, endedRight, halted, dropped, isRunning, joined}
 use Rattle.turns.specs.State.{State, at, over, status}
 

@@ -7,7 +7,7 @@ use lib.ListN.{length}
 use Rattle.actions.specs.Sets.{Action}
 use Rattle.policy.specs.Tree.{Tree}
 use Rattle.rules.specs.Spread.{spread}
-use Rattle.rules.proofs.Lawful.{Lawful}
+use Rattle.rules.specs.Lawful.{Lawful}
 use Rattle.turns.specs.State.{State}
 use Rattle.turns.specs.Process.{Item, ran, lets, sups, accepts, suppresses, Process, outcome, items, trace}
 use Rattle.turns.specs.Turn.{Phase, before, after, phase, Request, call}

@@ -11,7 +11,7 @@ use Rattle.actions.proofs.Tests.{and-intro, or-cases, or-false-left, or-false-r
 use Rattle.policy.specs.Steps.{Step, halt, isNext}
 use Rattle.policy.specs.Tree.{Way, Join, and, or, Tree, leaf, trivial, unsatisfiable, node}
 use Rattle.rules.specs.Modes.{idle}
-use Rattle.rules.proofs.Lawful.{reachedIn}
+use Rattle.rules.specs.Lawful.{reachedIn}
 use Rattle.turns.specs.Status.{Status, running, ended, endedLeft, endedRight, halted, dropped, isRunning, hasEnded, isHalted, isDecided, joined}
 use Rattle.turns.specs.State.{State, over, status, asked, offset, counter, leftOf, rightOf, leafOver, drop, noded, settled}
 use Rattle.turns.proofs.Rest.{gone, decidedBy, Rest, leaf-waits, leaf-ended, leaf-halted, trivial-ended, unsatisfiable-halted, pair-runs, pair-decided, Mid, rests, leaf-owes, trivial-owes}

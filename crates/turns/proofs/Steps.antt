@@ -11,7 +11,7 @@ use lib.ListN.{length, getD, drop, length-drop}
 use Rattle.actions.specs.Sets.{Action, ActionSet, has}
 use Rattle.policy.specs.Steps.{Step, next, ok, sup, ins, acase, spend, end, halt, targets, isNext}
 use Rattle.policy.specs.Tree.{leaf}
-use Rattle.rules.proofs.Lawful.{AllAhead, Inside, Forward, LawfulLeaf}
+use Rattle.rules.specs.Lawful.{AllAhead, Inside, Forward, LawfulLeaf}
 use Rattle.turns.specs.Status.{running, isRunning}
 use Rattle.turns.specs.State.{State, at, status, asked, offset, counter}
 use Rattle.turns.specs.Process.{Item, ran, lets, sups, accepts, suppresses, Out, Process, does, outcome, items, trace}

@@ -18,7 +18,7 @@ use Rattle.policy.specs.Tree.{Way, parallel, sequential, Join, and, or, Tree, l
 use Rattle.rules.specs.Modes.{Mode, idle, pending, closing as shutting, isIdle, isPending, reachedBy, marked, marks}
 use Rattle.rules.specs.Possible.{possibleAt}
 use Rattle.rules.specs.Interference.{effects}
-use Rattle.rules.proofs.Lawful.{reachedIn, Sub, Follows, LawfulLeaf, holds, Disjoint, Spared, Lawful}
+use Rattle.rules.specs.Lawful.{reachedIn, Sub, Follows, LawfulLeaf, holds, Disjoint, Spared, Lawful}
 use Rattle.turns.specs.Status.{running, ended, halted, isRunning, hasEnded, isHalted, joined}
 use Rattle.turns.specs.State.{State, at, status, asked, offset, counter, leftOf, rightOf, leafOver}
 use Rattle.turns.specs.Process.{Item, ran, lets, sups, accepts, suppresses, touches, Out, Process, both, outcome}

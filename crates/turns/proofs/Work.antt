@@ -14,9 +14,9 @@ use Rattle.policy.specs.Records.{nodeCount}
 use Rattle.policy.specs.Tree.{parallel, sequential, Tree, leaf, trivial, unsatisfiable, node, tree}
 use Rattle.rules.specs.Spread.{spread, spreadOf}
 use Rattle.rules.proofs.Grown.{EachLeaf}
-use Rattle.rules.proofs.Lawful.{holds, Disjoint, Lawful}
+use Rattle.rules.specs.Lawful.{holds, Disjoint, Lawful}
 use Rattle.rules.proofs.LawfulTree.{lawful, numbers-below-nodes, spread-255, leaf-length}
-use Rattle.rules.proofs.Passed.{Passed}
+use Rattle.rules.specs.Passed.{Passed}
 use Rattle.rules.proofs.Rows.{counts-fit}
 use Rattle.turns.specs.State.{State}
 use Rattle.turns.specs.Process.{items, trace}

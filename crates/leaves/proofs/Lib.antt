@@ -1,0 +1,4 @@
+pub mod LeafSteps
+pub mod LeafRuns
+pub mod LeafStarts
+pub mod LeafLands

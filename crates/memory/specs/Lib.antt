@@ -1,0 +1,4 @@
+pub mod Run
+pub mod Memory
+pub mod Cells
+pub mod Promises

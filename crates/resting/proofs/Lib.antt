@@ -1,0 +1,3 @@
+pub mod TidyLaws
+pub mod HeldLoad
+pub mod Awakened

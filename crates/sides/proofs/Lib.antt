@@ -1,0 +1,2 @@
+pub mod StatusBytes
+pub mod Nodes

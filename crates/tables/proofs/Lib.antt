@@ -1,0 +1,2 @@
+pub mod FileNodes
+pub mod TableLaws
