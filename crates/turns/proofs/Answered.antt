@@ -70,7 +70,7 @@ module _ (policy : Bytes) (q : Request) (state room : Bytes) where
     pub state-size : length state ≡ stateSize
     pub event-room : eventRoom ≤ length room
 
-  kept-11 : broken11 state room ≡ false → Room
+  pub kept-11 : broken11 state room ≡ false → Room
   unfolding broken11
   kept-11 e = record {
     state-size = eqb→eq (length state) stateSize (not-not (eqb (length state) stateSize) (or-false-left (not (eqb (length state) stateSize)) (ltb (length room) eventRoom) e));

@@ -18,7 +18,7 @@ use Rattle.turns.specs.Entries.{Reply, answers, refuses, eventRoom, Resu
 use Rattle.turns.proofs.Spread.{events-bound}
 use Rattle.turns.proofs.Answered.{Answered, answered, room-kept, file-passed}
 
-two-each : (es : List Event) → length (eventBytes es) ≡ 2 * length es
+pub two-each : (es : List Event) → length (eventBytes es) ≡ 2 * length es
 unfolding eventBytes
 two-each [] = refl
 two-each (accepted a ∷ es) = omega (arith, two-each es)

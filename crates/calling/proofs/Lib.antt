@@ -1,0 +1,3 @@
+mod EventLaws
+mod DriveBounds
+pub mod CallLaws

@@ -1,0 +1,201 @@
+// A call that no rule refuses, carried out: the phases of the root, the verdict between them, the state tidied at the end.
+ghost use mathlib.Core.Path.{_≡_};
+ghost use mathlib.Core.Bool.{true};
+ghost use mathlib.Core.List.{[], _∷_};
+ghost use Prim.Native.Nat.{_+_, _*_, _≤_};
+ghost use lib.Dec.{T};
+ghost use lib.ListN.{length};
+ghost use Rattle.actions.specs.Sets.{Action};
+ghost use Rattle.policy.specs.Bytes.{Bytes, put};
+ghost use Rattle.policy.specs.Tree.{regulated, tree};
+ghost use Rattle.rules.specs.Passed.{Passed};
+ghost use Rattle.turns.specs.Status.{statusOf};
+ghost use Rattle.turns.specs.Turn as spec;
+ghost use Rattle.turns.specs.Turn.{before, opening, isAsked, call};
+ghost use Rattle.turns.specs.Events.{eventOf, eventBytes};
+ghost use Rattle.turns.specs.Saved.{statusAt, fits};
+ghost use Rattle.turns.specs.Entries.{carriedOut};
+ghost use Rattle.tables.specs.Tables.{Tabled};
+ghost use Rattle.memory.specs.Memory.{phaseOf, view, held};
+ghost use Rattle.starting.specs.Ready.{Ready};
+ghost use Rattle.calling.specs.Replies.{Gave};
+ghost use Rattle.calling.specs.Parts.{carried, Played, verdicts, Added, Ended};
+use driving::drive;
+use reading::byte;
+use reading::word16;
+use resting::awaken::awaken;
+use resting::tidy::tidy;
+use starting::asks;
+use tables::prepare;
+
+// The number of events and the root's status, or a refusal number.
+pub enum Answer {
+    Answered(usize, u8),
+    Refused(u8),
+}
+
+const BEFORE: u8 = 0;
+
+const AFTER: u8 = 1;
+
+const CLOSING: u8 = 2;
+
+const ACCEPTED: u8 = 1;
+
+const SUPPRESSED: u8 = 2;
+
+const HALTED: u8 = 5;
+
+pub fn carry_open(policy: &[u8], state: &mut [u8], events: &mut [u8]) -> Answer
+    requires { ⌜ Passed (now policy) × ((length (now state) ≡ 248) × (512 ≤ length (now events))) ⌝ }
+    ensures { λ r. ⌜ Gave (carriedOut (now (policy .entry)) opening (now (state .entry)) (now (events .entry))) r (now (state .exit)) (now (events .exit)) ⌝ }
+{
+    let mut work = [0u8; 155];
+    awaken(policy, byte(policy, 3) as usize, state, &mut work);
+    one_phase(policy, state, &mut work, events, AFTER)
+}
+
+pub fn carry_close(policy: &[u8], state: &mut [u8], events: &mut [u8]) -> Answer
+    requires { ⌜ Passed (now policy) × ((length (now state) ≡ 248) × (512 ≤ length (now events))) ⌝ }
+    requires { ⌜ T (fits (now policy) (now state)) ⌝ }
+    ensures { λ r. ⌜ Gave (carriedOut (now (policy .entry)) spec.close (now (state .entry)) (now (events .entry))) r (now (state .exit)) (now (events .exit)) ⌝ }
+{
+    let mut work = [0u8; 155];
+    one_phase(policy, state, &mut work, events, CLOSING)
+}
+
+// Opening and closing: one phase of the root.
+fn one_phase(
+    policy: &[u8],
+    state: &mut [u8],
+    work: &mut [u8],
+    events: &mut [u8],
+    phase: u8,
+) -> Answer
+    requires { ⌜ Passed (now policy) × ((length (now state) ≡ 248) × ((length (now work) ≡ 155) × (512 ≤ length (now events)))) ⌝ }
+    ensures { λ r. ⌜ Gave (carried (tree (now (policy .entry))) (spec.phase (tree (now (policy .entry))) (phaseOf phase 0) (held (tree (now (policy .entry))) (view (now (state .entry)) (now (work .entry))))) (now (events .entry))) r (now (state .exit)) (now (events .exit)) ⌝ }
+{
+    let mut sets = [0u64; 31];
+    let mut firsts = [0u16; 31];
+    enter(policy, &mut sets, &mut firsts);
+    let done = drive(policy, &sets, &firsts, state, work, events, 0, phase, 0);
+    finish(policy, state, done.events)
+}
+
+pub fn carry_offer(policy: &[u8], state: &mut [u8], events: &mut [u8], action: u8) -> Answer
+    requires { ⌜ Passed (now policy) × ((length (now state) ≡ 248) × (512 ≤ length (now events))) ⌝ }
+    requires { ⌜ T (fits (now policy) (now state)) ⌝ }
+    ensures { λ r. ⌜ Gave (carriedOut (now (policy .entry)) (spec.offer action) (now (state .entry)) (now (events .entry))) r (now (state .exit)) (now (events .exit)) ⌝ }
+{
+    let mut sets = [0u64; 31];
+    let mut firsts = [0u16; 31];
+    let mut work = [0u8; 155];
+    enter(policy, &mut sets, &mut firsts);
+    let count = play(policy, &sets, &firsts, state, &mut work, events, action);
+    finish(policy, state, count)
+}
+
+// The root's answer to an action: the number of its events.
+fn play(
+    policy: &[u8],
+    sets: &[u64],
+    firsts: &[u16],
+    state: &mut [u8],
+    work: &mut [u8],
+    events: &mut [u8],
+    action: u8,
+) -> usize
+    requires { ⌜ Ready (now policy) (now sets) (now firsts) (now state) (now work) 0 × (512 ≤ length (now events)) ⌝ }
+    ensures { λ r. ⌜ Played (tree (now (policy .entry))) (call (tree (now (policy .entry))) (spec.offer action) (held (tree (now (policy .entry))) (view (now (state .entry)) (now (work .entry))))) (view (now (state .exit)) (now (work .exit))) (now (events .entry)) (now (events .exit)) r ⌝ }
+{
+    if asks(sets, state, work, 0, action) {
+        return turn(policy, sets, firsts, state, work, events, action);
+    }
+    say(events, 0, false, action);
+    1
+}
+
+// The root's turn on an action that it is asked about.
+fn turn(
+    policy: &[u8],
+    sets: &[u64],
+    firsts: &[u16],
+    state: &mut [u8],
+    work: &mut [u8],
+    events: &mut [u8],
+    action: u8,
+) -> usize
+    requires { ⌜ Ready (now policy) (now sets) (now firsts) (now state) (now work) 0 × (512 ≤ length (now events)) ⌝ }
+    requires { ⌜ isAsked (regulated (tree (now policy))) (before action) (held (tree (now policy)) (view (now state) (now work))) ≡ true ⌝ }
+    ensures { λ r. ⌜ Played (tree (now (policy .entry))) (call (tree (now (policy .entry))) (spec.offer action) (held (tree (now (policy .entry))) (view (now (state .entry)) (now (work .entry))))) (view (now (state .exit)) (now (work .exit))) (now (events .entry)) (now (events .exit)) r ⌝ }
+{
+    let first = drive(policy, sets, firsts, state, work, events, 0, BEFORE, action);
+    let count = judge(state, events, first.events, first.suppressed, action);
+    let second = drive(
+        policy,
+        sets,
+        firsts,
+        state,
+        work,
+        events,
+        2 * count,
+        AFTER,
+        0,
+    );
+    count + second.events
+}
+
+// "The verdict's event stands between the phases; a halt before the verdict has none."
+fn judge(state: &[u8], events: &mut [u8], count: usize, suppressed: bool, action: u8) -> usize
+    requires { ⌜ (length (now state) ≡ 248) × (2 * count + 2 ≤ length (now events)) ⌝ }
+    ensures { λ r. ⌜ Added (verdicts (statusOf (statusAt (now (state .entry)) 0)) suppressed action) (now (events .entry)) (now (events .exit)) count r ⌝ }
+{
+    if byte(state, 0) == HALTED {
+        return count;
+    }
+    say(events, count, suppressed, action);
+    count + 1
+}
+
+// Writes the verdict's event, after so many.
+fn say(events: &mut [u8], count: usize, suppressed: bool, action: u8)
+    requires { ⌜ 2 * count + 2 ≤ length (now events) ⌝ }
+    ensures { λ _. ⌜ now (events .exit) ≡ put (now (events .entry)) (2 * count) (eventBytes (eventOf (spec.verdict suppressed action))) ⌝ }
+{
+    let at = 2 * count;
+    events[at] = verdict(suppressed);
+    events[at + 1] = action;
+}
+
+// The verdict's byte in its event.
+fn verdict(suppressed: bool) -> u8
+    ensures { λ r. ⌜ ((a : Action) → eventBytes (eventOf (spec.verdict suppressed a)) ≡ r ∷ a ∷ []) ⌝ }
+{
+    if suppressed {
+        return SUPPRESSED;
+    }
+    ACCEPTED
+}
+
+// The tables of a call.
+fn enter(policy: &[u8], sets: &mut [u64], firsts: &mut [u16])
+    requires { ⌜ Passed (now policy) × ((length (now sets) ≡ 31) × (length (now firsts) ≡ 31)) ⌝ }
+    ensures { λ _. ⌜ Tabled (now (policy .entry)) (now (sets .exit)) (now (firsts .exit)) ⌝ }
+{
+    prepare(
+        policy,
+        byte(policy, 3) as usize,
+        word16(policy, 4) as usize,
+        sets,
+        firsts,
+    );
+}
+
+// Every answered call ends so: the state is made canonical, and the root's status read from it.
+fn finish(policy: &[u8], state: &mut [u8], count: usize) -> Answer
+    requires { ⌜ Passed (now policy) × (length (now state) ≡ 248) ⌝ }
+    ensures { λ r. ⌜ ((ws : Bytes) → Ended (tree (now (policy .entry))) (held (tree (now (policy .entry))) (view (now (state .entry)) ws)) count r (now (state .exit))) ⌝ }
+{
+    tidy(policy, state);
+    Answer::Answered(count, byte(state, 0))
+}

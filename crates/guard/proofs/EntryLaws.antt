@@ -1,0 +1,98 @@
+-- The entry points: the refusals in their order, and what is carried out where none applies. Assumes nothing.
+use Prim.Native.Nat.{ℕ, _≤_, _<_}
+use mathlib.Core.Path.{_≡_, refl, sym, ap, _∙_, subst}
+use mathlib.Core.Bool.{Bool, true, false, not}
+use mathlib.Core.List.{List, [], _∷_}
+use lib.Dec.{T, eqb}
+use lib.ListN.{length}
+use borrow.Author.Tests.{eqb-true, eqb-false, lt-leb, le-leb}
+use Rattle.actions.specs.Sets.{isAction}
+use Rattle.actions.specs.declared.ActionSet.{ActionSet}
+use Rattle.actions.proofs.Tests.{not-not}
+use Rattle.policy.specs.Bytes.{Bytes}
+use Rattle.rules.specs.Check.{passes, refused, check}
+use Rattle.checking.specs.declared.Checked.{Checked}
+use Rattle.checking.specs.declared.Checked.the-variants.{Passed, Refused}
+use Rattle.checking.specs.Answers.{answered}
+use Rattle.turns.specs.Status.{statusOf, isHalted}
+use Rattle.turns.specs.Turn.{Request, close}
+use Rattle.turns.specs.Saved.{fits}
+use Rattle.turns.specs.Entries.{Result, refusal, carriedOut, broken11, broken12, broken13, Refusal, refusals, unless, entry}
+use Rattle.turns.proofs.Answered.{kept-11}
+use Rattle.sides.proofs.StatusBytes.{not-halted}
+use Rattle.calling.specs.declared.Answer.{Answer}
+use Rattle.calling.specs.declared.Answer.the-variants as answers
+use Rattle.calling.specs.Replies.{spoken, Gave}
+
+-- ---- what a refusal that does not apply says
+
+pub room-enough : (state room : Bytes) → broken11 state room ≡ false → (length state ≡ 248) × (512 ≤ length room)
+room-enough state room e = let k = kept-11 [] close state room e in (k .state-size, k .event-room)
+
+pub state-fits : (policy state : Bytes) → broken12 policy state ≡ false → T (fits policy state)
+unfolding broken12
+state-fits policy state e = not-not (fits policy state) e
+
+pub no-action : (a : ℕ) → 63 < a → broken13 a ≡ true
+unfolding broken13 isAction
+no-action a h = ap not (lt-leb a 63 h)
+
+pub an-action : (a : ℕ) → a ≤ 63 → broken13 a ≡ false
+unfolding broken13 isAction
+an-action a h = ap not (le-leb a 63 h)
+
+pub halted-five : (n : ℕ) → eqb n 5 ≡ isHalted (statusOf n)
+halted-five n = go (eqb n 5) refl
+  where
+    go : (b : Bool) → eqb n 5 ≡ b → b ≡ isHalted (statusOf n)
+    go true e = sym (unfold isHalted statusOf in ap (λ (k : ℕ). isHalted (statusOf k)) (eqb-true n 5 e))
+    go false e = sym (not-halted n (eqb-false n 5 e))
+
+-- ---- the check's answer
+
+module _ (policy : Bytes) {x : Checked} (e : answered x ≡ check policy) where
+  pub check-passes : {r f : ActionSet} → x ≡ Passed r f → check policy ≡ passes (r .bits) (f .bits)
+  unfolding answered
+  check-passes h = sym e ∙ ap answered h
+
+  pub check-refuses : {n : ℕ} → x ≡ Refused n → check policy ≡ refused n
+  unfolding answered
+  check-refuses h = sym e ∙ ap answered h
+
+-- ---- in order
+
+pub refused-file : (policy : Bytes) (q : Request) (state room : Bytes) (n : ℕ) {k : ℕ} → check policy ≡ refused n → k ≡ n
+    → Gave (entry policy q state room) (answers.Refused k) state room
+unfolding entry refusal spoken
+refused-file policy q state room n e f = rw (e, entry) (record { answer = ap answers.Refused f; state = refl; events = refl })
+
+-- The file passed, none of the refusals before these applied, and these are left to be tried.
+pub record Left (policy : Bytes) (q : Request) (state room : Bytes) (rs : List Refusal) : Type 0 where
+  pub left : entry policy q state room ≡ unless rs policy q state room
+
+pub all-left : (policy : Bytes) (q : Request) (state room : Bytes) {r e : ℕ} → check policy ≡ passes r e → Left policy q state room (refusals policy q state room)
+unfolding entry
+all-left policy q state room h = record { left = rw (h, entry) }
+
+module _ {policy : Bytes} {q : Request} {state room : Bytes} where
+  module _ {r : Refusal} {rs : List Refusal} (l : Left policy q state room (r ∷ rs)) where
+    pub refused-here : r .applies ≡ true → Gave (entry policy q state room) (answers.Refused (r .number)) state room
+    unfolding unless refusal spoken
+    refused-here e =
+        let f : unless (r ∷ rs) policy q state room ≡ refusal (r .number) state room = rw (e, unless) in
+        subst (λ (x : Result). Gave x (answers.Refused (r .number)) state room) (sym (l .left ∙ f)) (record { answer = refl; state = refl; events = refl })
+
+    pub next-left : r .applies ≡ false → Left policy q state room rs
+    unfolding unless
+    next-left e = record { left = l .left ∙ rw (e, unless) }
+
+  pub none-left : {x : Answer} {bytes room′ : Bytes} → Left policy q state room [] → Gave (carriedOut policy q state room) x bytes room′
+      → Gave (entry policy q state room) x bytes room′
+  unfolding unless
+  none-left {x} {bytes} {room′} l g = subst (λ (y : Result). Gave y x bytes room′) (sym (l .left)) g
+
+-- ---- two answers that meet a contract are one
+
+pub gave-once : {x : Result} {r r′ : Answer} {bytes bytes′ room room′ : Bytes} → Gave x r bytes room → Gave x r′ bytes′ room′
+    → (r ≡ r′) × (bytes ≡ bytes′) × (room ≡ room′)
+gave-once g h = (g .answer ∙ sym (h .answer), g .state ∙ sym (h .state), g .events ∙ sym (h .events))

@@ -1,0 +1,12 @@
+-- `short` meets its contract. Assumes nothing.
+use mathlib.Core.Path.{refl}
+use Rattle.turns.specs.Entries.{broken11}
+use Rattle.guard.proofs.refusals.short.Statement.{statement}
+use Rattle.guard.proofs.refusals.short.Tie as tie
+
+returns : tie.Need-returns
+unfolding broken11
+returns c = refl
+
+pub short-spec : {M : Type 1} → statement M
+short-spec = tie.close (tie.spec returns)

@@ -1,0 +1,70 @@
+// The entry points: open, offer and close, on slices that the caller lends. The check is crate checking's.
+ghost use Rattle.turns.specs.Entries.{opens, offers, closes};
+ghost use Rattle.calling.specs.Replies.{Gave};
+use crate::refusals::halted;
+use crate::refusals::number;
+use crate::refusals::short;
+use crate::refusals::unfit;
+use calling::Answer;
+use calling::carry_close;
+use calling::carry_offer;
+use calling::carry_open;
+use checking::Checked;
+use checking::check;
+
+mod refusals;
+
+// Opens the policy: the state buffer need hold nothing beforehand.
+pub fn open(policy: &[u8], state: &mut [u8], events: &mut [u8]) -> Answer
+    ensures { λ r. ⌜ Gave (opens (now (policy .entry)) (now (state .entry)) (now (events .entry))) r (now (state .exit)) (now (events .exit)) ⌝ }
+{
+    let checked = check(policy);
+    let Checked::Passed(_, _) = checked else {
+        return Answer::Refused(number(checked));
+    };
+    if short(state, events) {
+        return Answer::Refused(11);
+    }
+    carry_open(policy, state, events)
+}
+
+// Offers an action.
+pub fn offer(policy: &[u8], state: &mut [u8], events: &mut [u8], action: u8) -> Answer
+    ensures { λ r. ⌜ Gave (offers (now (policy .entry)) (now (state .entry)) (now (events .entry)) action) r (now (state .exit)) (now (events .exit)) ⌝ }
+{
+    let checked = check(policy);
+    let Checked::Passed(_, _) = checked else {
+        return Answer::Refused(number(checked));
+    };
+    if short(state, events) {
+        return Answer::Refused(11);
+    }
+    if unfit(policy, state) {
+        return Answer::Refused(12);
+    }
+    let halted = halted(state);
+    if action > 63 {
+        return Answer::Refused(13);
+    }
+    if halted {
+        return Answer::Refused(14);
+    }
+    carry_offer(policy, state, events, action)
+}
+
+// Closes the policy.
+pub fn close(policy: &[u8], state: &mut [u8], events: &mut [u8]) -> Answer
+    ensures { λ r. ⌜ Gave (closes (now (policy .entry)) (now (state .entry)) (now (events .entry))) r (now (state .exit)) (now (events .exit)) ⌝ }
+{
+    let checked = check(policy);
+    let Checked::Passed(_, _) = checked else {
+        return Answer::Refused(number(checked));
+    };
+    if short(state, events) {
+        return Answer::Refused(11);
+    }
+    if unfit(policy, state) {
+        return Answer::Refused(12);
+    }
+    carry_close(policy, state, events)
+}
