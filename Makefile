@@ -1,8 +1,15 @@
-# Makefile: `make trials SEED=7 COUNT=200000` compares the guard with second/, on as many calls as one likes.
+# Makefile: `make sample SAMPLE=small-sequential-and` builds guardrun and runs it on a sample; `make trials SEED=7 COUNT=200000` compares the
+# guard with second/, on as many calls as one likes.
+SAMPLE = brazing-furnace
 SEED = 1
 COUNT = 20000
+
+sample:
+	@mkdir -p target
+	@rt check guardrun >target/sample.log 2>&1 || { cat target/sample.log; exit 1; }
+	@tests/under-kit target/bin/guardrun <samples/$(SAMPLE).input
 
 trials:
 	tests/trials $(COUNT) $(SEED)
 
-.PHONY: trials
+.PHONY: sample trials

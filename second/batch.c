@@ -1,10 +1,8 @@
-/* batch.c: reads a batch of guard calls on standard input and writes their answers on standard output;
- * `batch checks` writes the check's answer about the policy of every call instead. */
+/* batch.c: reads a batch of guard calls on standard input and writes their answers on standard output. */
 #include "guard.h"
 
 #include <stdbool.h>
 #include <stdio.h>
-#include <string.h>
 
 /* A call: entry (1), policy length (2) and bytes, state length (2) and bytes,
  * event-buffer length (2) and bytes, action (1). Lengths are big-endian. */
@@ -66,14 +64,8 @@ static void answer_call(int entry, uint8_t action)
     fwrite(events.bytes, 1, events.length, stdout);
 }
 
-int main(int argc, char **argv)
+int main(void)
 {
-    const bool checks_only = argc == 2 && strcmp(argv[1], "checks") == 0;
-
-    if (argc > 1 && !checks_only) {
-        fputs("batch [checks]\n", stderr);
-        return 2;
-    }
     for (;;) {
         const int entry = getchar();
         if (entry == EOF) {
@@ -89,7 +81,7 @@ int main(int argc, char **argv)
             fputs("batch: broken input\n", stderr);
             return 1;
         }
-        if (entry == CHECK || checks_only) {
+        if (entry == CHECK) {
             answer_check();
         } else {
             answer_call(entry, (uint8_t)action);

@@ -4,7 +4,7 @@
   python3 tests/stored.py make PROGRAM    write every file; outputs are what PROGRAM prints
   python3 tests/stored.py check PROGRAM   run PROGRAM on every stored input, compare with the stored output
 
-PROGRAM behaves as 01's guardrun; the stored outputs were made by second/run. Each
+PROGRAM, with words for it if there are any, behaves as 01's guardrun; the stored outputs were made by second/run. Each
 description also says, written by hand from 01, what must be printed; `make` stops where
 the program prints something else. `check` also demands that the stored inputs, policies
 and README files are the ones the descriptions give. Same bytes at every call.
@@ -1062,7 +1062,7 @@ def described():
 
 
 def printed_by(program, given):
-    done = subprocess.run([program], input=given, stdout=subprocess.PIPE, timeout=60, check=False)
+    done = subprocess.run(program, input=given, stdout=subprocess.PIPE, timeout=60, check=False)
     return done.stdout
 
 
@@ -1098,6 +1098,6 @@ def check(program):
 
 
 if __name__ == "__main__":
-    if len(sys.argv) != 3 or sys.argv[1] not in ("make", "check"):
+    if len(sys.argv) < 3 or sys.argv[1] not in ("make", "check"):
         sys.exit(__doc__)
-    (make if sys.argv[1] == "make" else check)(str(pathlib.Path(sys.argv[2]).resolve()))
+    (make if sys.argv[1] == "make" else check)([str(pathlib.Path(sys.argv[2]).resolve()), *sys.argv[3:]])

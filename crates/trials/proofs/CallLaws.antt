@@ -1,10 +1,18 @@
 -- Laws of a call's parts: each lies after the one before, and what a reader of so many bytes may say. Assumes nothing.
 use Prim.Native.Nat.{ℕ, _+_, _-_, _≤_, _<_}
-use mathlib.Core.Path.{_≡_, ap, subst, _∙_}
+use mathlib.Core.Path.{_≡_, refl, sym, ap, ap₂, subst, _∙_}
+use mathlib.Core.List.{_++_}
 use native.Mathlib.Omega.{arith}
 use lib.ListN.{length, take, drop}
+use lib.Seq.{take-at, take-length, take-append-seam, length-take-le}
+use borrow.Author.Tests.{eq-eqb, ne-eqb}
+use borrow.Rule.Slice.PartMut.{mid-len}
 use Rattle.policy.specs.Bytes.{Bytes, number}
-use Rattle.trials.specs.Calls.{fieldEnd, policyEnd, stateEnd, eventsEnd, longest, Placed, policyIn, Found, Taken}
+use Rattle.turns.specs.Turn.{Request, opening, offer, close}
+use Rattle.turns.specs.Entries.{entry}
+use Rattle.calling.specs.Replies.{Gave}
+use Rattle.calling.specs.declared.Answer.{Answer}
+use Rattle.trials.specs.Calls.{fieldEnd, policyEnd, stateEnd, eventsEnd, longest, Placed, part, policyIn, stateIn, eventsIn, request, called, Found, Taken, replyBytes, Answers}
 use Rattle.trials.specs.declared.calls.Parts.{Parts}
 use Rattle.trials.specs.declared.calls.Call.{Call}
 use Rattle.trials.specs.declared.calls.Call.the-variants.{Whole, Short}
@@ -40,28 +48,42 @@ unfolding Found
 short bs have n h e l = (h, e, l)
 
 pub whole : (bs : Bytes) (have : ℕ) (c : Parts) → eventsEnd bs < have → have ≤ length bs
-    → c .policy ≡ policyEnd bs → c .state ≡ stateEnd bs → c .events ≡ eventsEnd bs → c .entry ≡ number bs 0 1 → c .action ≡ number bs (c .events) 1
+    → c .policy ≡ policyEnd bs → c .state ≡ stateEnd bs → c .state ≤ c .policy + 65537 → c .events ≡ eventsEnd bs → c .events ≤ c .state + 65537
+    → c .entry ≡ number bs 0 1 → c .action ≡ number bs (c .events) 1
     → Found bs have (Whole c)
 unfolding Found
-whole bs have c h l p s e n a = (
-  h,
-  record { inside = omega arith; policy = p; state = s; events = e; entry = n; action = a ∙ ap (λ (k : ℕ). number bs k 1) e },
-)
+whole bs have c h l p s u e v n a =
+    let x = policy-from bs in
+    let y = state-from bs in
+    let z = events-from bs in (
+      h,
+      record {
+        policy = p;
+        state = s;
+        events = e;
+        entry = n;
+        action = a ∙ ap (λ (k : ℕ). number bs k 1) e;
+        policy-from = omega arith;
+        state-from = omega arith;
+        state-room = omega arith;
+        events-from = omega arith;
+        events-room = omega arith;
+        inside = omega arith;
+      },
+    )
 
--- the policy is inside the bytes
-pub policy-inside : (bs : Bytes) (c : Parts) → Placed bs c → (3 ≤ c .policy) × (c .policy ≤ length bs)
-policy-inside bs c p =
-    let f = policy-from bs in
-    let g = state-from bs in
-    let h = events-from bs in
-    let i = p .inside in
-    let j = p .policy in
-    (omega arith, omega arith)
+-- each part as the format has it
+pub policy-part : (bs : Bytes) (c : Parts) → Placed bs c → part 3 (c .policy) bs ≡ policyIn bs
+unfolding policyIn
+policy-part bs c p = ap (λ (k : ℕ). part 3 k bs) (p .policy)
 
--- and it is the bytes from 3 to its end
-pub policy-part : (bs : Bytes) (c : Parts) → Placed bs c → take (c .policy - 3) (drop 3 bs) ≡ policyIn bs
-unfolding fieldEnd policyEnd policyIn
-policy-part bs c p = let e : c .policy - 3 ≡ number bs 1 2 = (let j = p .policy in omega arith) in ap (λ (k : ℕ). take k (drop 3 bs)) e
+pub state-part : (bs : Bytes) (c : Parts) → Placed bs c → part (c .policy + 2) (c .state) bs ≡ stateIn bs
+unfolding stateIn
+state-part bs c p = ap₂ (λ (k l : ℕ). part (k + 2) l bs) (p .policy) (p .state)
+
+pub events-part : (bs : Bytes) (c : Parts) → Placed bs c → part (c .state + 2) (c .events) bs ≡ eventsIn bs
+unfolding eventsIn
+events-part bs c p = ap₂ (λ (k l : ℕ). part (k + 2) l bs) (p .state) (p .events)
 
 pub taken-whole : (bs : Bytes) (have : ℕ) (r : Call) (c : Parts) → r ≡ Whole c → Found bs have r → Taken bs (Whole c)
 unfolding Found Taken
@@ -74,3 +96,57 @@ taken-placed bs r c e t = let g : Taken bs (Whole c) = subst (λ (x : Call). Tak
 pub wanted : (bs : Bytes) (have : ℕ) (r : Call) (n : ℕ) → r ≡ Short n → Found bs have r → (have < n) × (n ≤ longest)
 unfolding Found
 wanted bs have r n e f = let g : Found bs have (Short n) = subst (λ (x : Call). Found bs have x) e f in (g .0, g .2)
+
+-- ---- the entry
+
+pub request-open : (n a : ℕ) → n ≡ 1 → opening ≡ request n a
+unfolding request
+request-open n a e = rw (request, eq-eqb n 1 e) refl
+
+pub request-offer : (n a : ℕ) → n ≡ 2 → offer a ≡ request n a
+unfolding request
+request-offer n a e = rw (request, ne-eqb n 1 (λ d. omega arith), eq-eqb n 2 e) refl
+
+pub request-close : (n a : ℕ) → (n ≡ 1 → ⊥) → (n ≡ 2 → ⊥) → close ≡ request n a
+unfolding request
+request-close n a d e = rw (request, ne-eqb n 1 d, ne-eqb n 2 e) refl
+
+pub gave-as : (policy state events : Bytes) {saved room : Bytes} {r : Answer} {q k : Request} → k ≡ q → Gave (entry policy k state events) r saved room
+    → Gave (entry policy q state events) r saved room
+gave-as policy state events {saved} {room} {r} e g = subst (λ (x : Request). Gave (entry policy x state events) r saved room) e g
+
+-- ---- buffers
+
+-- what was copied to the start of a buffer
+pub loaded : (batch buffer after : Bytes) (from to r : ℕ) → to ≤ length batch → r ≡ length (part from to batch)
+    → after ≡ take (length (part from to batch)) (part from to batch) ++ drop (length (part from to batch)) buffer → (r ≡ to - from) × (take r after ≡ part from to batch)
+unfolding part
+loaded batch buffer after from to r h e f = (
+  e ∙ mid-len from to batch h,
+  ap₂ take e f
+      ∙ ap (λ (l : Bytes). take (length (part from to batch)) (l ++ drop (length (part from to batch)) buffer)) (take-length (part from to batch))
+      ∙ take-append-seam (part from to batch) (drop (length (part from to batch)) buffer),
+)
+
+-- what a call leaves at the start of a buffer, where the rest is as it was
+front : (now rest : Bytes) (n k : ℕ) → n ≡ k → length now ≡ k → take n (now ++ rest) ≡ now
+front now rest n k e f = take-at now rest n (f ∙ sym e)
+
+-- a call on its own parts
+pub made : (bs : Bytes) (c : Parts) (s e s′ e′ x y reply : Bytes) (m n : ℕ) (a : Answer) → Placed bs c
+    → m ≡ c .state - (c .policy + 2) → take m s ≡ part (c .policy + 2) (c .state) bs → m ≤ length s
+    → n ≡ c .events - (c .state + 2) → take n e ≡ part (c .state + 2) (c .events) bs → n ≤ length e
+    → Gave (entry (part 3 (c .policy) bs) (request (c .entry) (c .action)) (take m s) (take n e)) a s′ e′ → length s′ ≡ length (take m s) → length e′ ≡ length (take n e)
+    → reply ≡ replyBytes a
+    → Answers (called bs) reply (take (c .state - (c .policy + 2)) (s′ ++ x)) (take (c .events - (c .state + 2)) (e′ ++ y))
+unfolding called
+made bs c s e s′ e′ x y reply m n a p ms sp mi ne ep ni g ls le rb =
+    let q = subst (λ (z : Bytes). Gave (entry z (request (c .entry) (c .action)) (take m s) (take n e)) a s′ e′) (policy-part bs c p) g in
+    let q = subst (λ (z : Bytes). Gave (entry (policyIn bs) (request (c .entry) (c .action)) z (take n e)) a s′ e′) (sp ∙ state-part bs c p) q in
+    let q = subst (λ (z : Bytes). Gave (entry (policyIn bs) (request (c .entry) (c .action)) (stateIn bs) z) a s′ e′) (ep ∙ events-part bs c p) q in
+    let q = subst (λ (z : Request). Gave (entry (policyIn bs) z (stateIn bs) (eventsIn bs)) a s′ e′) (ap₂ request (p .entry) (p .action)) q in
+    record {
+      reply = rb ∙ ap replyBytes (q .answer);
+      state = front s′ x (c .state - (c .policy + 2)) m (sym ms) (ls ∙ length-take-le m s mi) ∙ q .state;
+      events = front e′ y (c .events - (c .state + 2)) n (sym ne) (le ∙ length-take-le n e ni) ∙ q .events;
+    }

@@ -1,10 +1,17 @@
--- A batch's bytes: a call, and the check's answer. Assumes nothing.
-use Prim.Native.Nat.{ℕ, _+_, _≤_, _<_}
+-- A batch's bytes: a call, and its answer. Assumes nothing.
+use Prim.Native.Nat.{ℕ, _+_, _-_, _≤_, _<_}
 use mathlib.Core.Path.{_≡_}
-use mathlib.Core.List.{_∷_, _++_}
+use mathlib.Core.Bool.{true, false}
+use mathlib.Core.List.{[], _∷_, _++_}
+use lib.Dec.{eqb}
 use lib.ListN.{length, take, drop}
 use Rattle.policy.specs.Bytes.{Bytes, number, spell}
 use Rattle.rules.specs.Check.{Answer, passes, refused}
+use Rattle.turns.specs.Turn.{Request, opening, offer, close}
+use Rattle.turns.specs.Entries.{Result, entry}
+use Rattle.calling.specs.Replies.{spoken}
+use Rattle.calling.specs.declared.Answer as guard
+use Rattle.calling.specs.declared.Answer.the-variants.{Answered, Refused}
 use Rattle.trials.specs.declared.calls.Parts.{Parts}
 use Rattle.trials.specs.declared.calls.Call.{Call}
 use Rattle.trials.specs.declared.calls.Call.the-variants.{Whole, Short}
@@ -24,22 +31,48 @@ stateEnd bs = fieldEnd bs (policyEnd bs)
 unfoldable pub eventsEnd : Bytes → ℕ
 eventsEnd bs = fieldEnd bs (stateEnd bs)
 
--- the longest call: 8 bytes and three fields of 65,535
+-- the longest field, and the longest call: 8 bytes and three such fields
+abbrev pub longestField : ℕ
+longestField = 65535
+
 abbrev pub longest : ℕ
 longest = 196613
 
--- the parts are all there, and each is where the format puts it
+-- The parts are all there, one after the other, and each is where the format puts it.
 pub record Placed (bs : Bytes) (c : Parts) : Type 0 where
-  pub inside : eventsEnd bs < length bs
   pub policy : c .policy ≡ policyEnd bs
   pub state : c .state ≡ stateEnd bs
   pub events : c .events ≡ eventsEnd bs
   pub entry : c .entry ≡ number bs 0 1
   pub action : c .action ≡ number bs (eventsEnd bs) 1
+  pub policy-from : 3 ≤ c .policy
+  pub state-from : c .policy + 2 ≤ c .state
+  pub state-room : c .state ≤ c .policy + 2 + longestField
+  pub events-from : c .state + 2 ≤ c .events
+  pub events-room : c .events ≤ c .state + 2 + longestField
+  pub inside : c .events < length bs
 
--- the call's policy
+-- the bytes from one place up to another
+unfoldable pub part : ℕ → ℕ → Bytes → Bytes
+part from to bs = take (to - from) (drop from bs)
+
+-- the call's policy, its state and its event buffer
 unfoldable pub policyIn : Bytes → Bytes
-policyIn bs = take (number bs 1 2) (drop 3 bs)
+policyIn bs = part 3 (policyEnd bs) bs
+
+unfoldable pub stateIn : Bytes → Bytes
+stateIn bs = part (policyEnd bs + 2) (stateEnd bs) bs
+
+unfoldable pub eventsIn : Bytes → Bytes
+eventsIn bs = part (stateEnd bs + 2) (eventsEnd bs) bs
+
+-- entry 1 opens, 2 offers the action, 3 closes (and 0 checks)
+unfoldable pub request : ℕ → ℕ → Request
+request n a = elim (eqb n 1) [ true ↦ opening | false ↦ elim (eqb n 2) [ true ↦ offer a | false ↦ close ] ]
+
+-- what the call gives, where it is no check
+unfoldable pub called : Bytes → Result
+called bs = entry (policyIn bs) (request (number bs 0 1) (number bs (eventsEnd bs) 1)) (stateIn bs) (eventsIn bs)
 
 -- of a call of which `have` bytes have been read; short of more bytes than those, none of which is past the call's end
 unfoldable pub Found : Bytes → ℕ → Call → Type 0
@@ -55,3 +88,13 @@ Taken bs (Short n) = Unit
 unfoldable pub answerBytes : Answer → Bytes
 answerBytes (passes r e) = 0 ∷ (spell 8 r ++ spell 8 e)
 answerBytes (refused n) = n ∷ (spell 8 0 ++ spell 8 0)
+
+-- "refusal (1), events (2), status (1), state buffer, event buffer"
+unfoldable pub replyBytes : guard.Answer → Bytes
+replyBytes (Answered n s) = 0 ∷ (spell 2 n ++ (s ∷ []))
+replyBytes (Refused n) = n ∷ 0 ∷ 0 ∷ 0 ∷ []
+
+pub record Answers (x : Result) (r saved room : Bytes) : Type 0 where
+  pub reply : r ≡ replyBytes (spoken (x .reply))
+  pub state : saved ≡ x .state
+  pub events : room ≡ x .events

@@ -1,14 +1,21 @@
 // The bytes of an answer.
 ghost use mathlib.Core.Path.{_≡_};
-ghost use Prim.Native.Nat.{_%_};
+ghost use Prim.Native.Nat.{_%_, _+_, _-_, _≤_};
+ghost use lib.ListN.{length, take};
 ghost use Rattle.rules.specs.Check.{check};
 ghost use Rattle.checking.specs.Answers.{answered};
 ghost use mathlib.Core.List.{_∷_, _++_};
 ghost use Rattle.policy.specs.Bytes.{spell};
-ghost use Rattle.trials.specs.Calls.{Placed, policyIn, answerBytes};
+ghost use Rattle.turns.specs.Entries.{entry};
+ghost use Rattle.calling.specs.Replies.{Gave};
+ghost use Rattle.trials.specs.Calls.{longestField, Placed, part, policyIn, request, called, answerBytes, replyBytes, Answers};
 use crate::calls::Parts;
+use calling::Answer;
 use checking::Checked;
 use checking::check;
+use guard::close;
+use guard::offer;
+use guard::open;
 
 fn low(x: u64) -> u8
     ensures { λ r. ⌜ r ≡ x % 256 ⌝ }
@@ -59,4 +66,55 @@ pub fn policy_answer(batch: &[u8], parts: Parts) -> [u8; 17]
 {
     let end = parts.policy;
     check_bytes(&batch[3..end])
+}
+
+// An answer of the other entry points, the event count's highest byte first.
+fn reply_bytes(answer: Answer) -> [u8; 4]
+    ensures { λ r. ⌜ r ≡ replyBytes answer ⌝ }
+{
+    match answer {
+        Answer::Answered(count, status) => {
+            let n = count as u64;
+            [0, low(n >> 8), low(n >> 0), status]
+        }
+        Answer::Refused(n) => [n, 0, 0, 0],
+    }
+}
+
+fn enter(number: u8, policy: &[u8], state: &mut [u8], events: &mut [u8], action: u8) -> Answer
+    ensures { λ r. ⌜ Gave (entry (now (policy .entry)) (request number action) (now (state .entry)) (now (events .entry))) r (now (state .exit)) (now (events .exit)) ⌝ }
+{
+    match number {
+        1 => open(policy, state, events),
+        2 => offer(policy, state, events, action),
+        _ => close(policy, state, events),
+    }
+}
+
+// Copies a part of the batch to the start of a buffer, and answers its length.
+fn load(batch: &[u8], from: usize, to: usize, buffer: &mut [u8]) -> usize
+    requires { ⌜ (from ≤ to) × (to ≤ length (now batch)) × (to - from ≤ length (now buffer)) ⌝ }
+    ensures { λ r. ⌜ (r ≡ to - from) × (take r (now (buffer .exit)) ≡ part from to (now (batch .entry))) ⌝ }
+{
+    bytes::copy(&batch[from..to], buffer)
+}
+
+// Makes the call on copies of its two buffers, which are left at the start of `state` and of `events`.
+pub fn call_answer(batch: &[u8], parts: Parts, state: &mut [u8], events: &mut [u8]) -> [u8; 4]
+    requires { ⌜ Placed (now batch) parts × (longestField ≤ length (now state)) × (longestField ≤ length (now events)) ⌝ }
+    ensures { λ r. ⌜ Answers (called (now (batch .entry))) r (take (parts .state - (parts .policy + 2)) (now (state .exit))) (take (parts .events - (parts .state + 2)) (now (events .exit))) ⌝ }
+{
+    let policy_end = parts.policy;
+    let state_end = parts.state;
+    let events_end = parts.events;
+    let of_state = load(batch, policy_end + 2, state_end, state);
+    let of_events = load(batch, state_end + 2, events_end, events);
+    let answer = enter(
+        parts.entry,
+        &batch[3..policy_end],
+        &mut state[..of_state],
+        &mut events[..of_events],
+        parts.action,
+    );
+    reply_bytes(answer)
 }

@@ -3,7 +3,8 @@
 ghost use mathlib.Core.Path.{_≡_};
 ghost use Prim.Native.Nat.{_≤_};
 ghost use lib.ListN.{length};
-ghost use Rattle.trials.specs.Calls.{longest, Placed, Taken};
+ghost use Rattle.trials.specs.Calls.{longest, longestField, Placed, Taken};
+use crate::answers::call_answer;
 use crate::answers::policy_answer;
 use crate::calls::Call;
 use crate::calls::Parts;
@@ -43,26 +44,40 @@ fn read_call(batch: &mut [u8]) -> Call
     }
 }
 
-// Writes the answer, and says whether there was one. Every entry has the check's until the others have code.
-fn answer(batch: &[u8], parts: Parts) -> bool
-    requires { ⌜ Placed (now batch) parts ⌝ }
+// Makes the call and writes its answer, and says whether that was written.
+fn write_call(batch: &[u8], parts: Parts, state: &mut [u8], events: &mut [u8]) -> bool
+    requires { ⌜ Placed (now batch) parts × (longestField ≤ length (now state)) × (longestField ≤ length (now events)) ⌝ }
+{
+    let of_state = parts.state - (parts.policy + 2);
+    let of_events = parts.events - (parts.state + 2);
+    let bytes = call_answer(batch, parts, state, events);
+    let reply = io::write_all(STDOUT_FILENO, &bytes);
+    let saved = io::write_all(STDOUT_FILENO, &state[..of_state]);
+    let told = io::write_all(STDOUT_FILENO, &events[..of_events]);
+    reply & saved & told
+}
+
+// Writes the answer, and says whether there was one.
+fn answer(batch: &[u8], parts: Parts, state: &mut [u8], events: &mut [u8]) -> bool
+    requires { ⌜ Placed (now batch) parts × (longestField ≤ length (now state)) × (longestField ≤ length (now events)) ⌝ }
 {
     let entry = parts.entry;
     match entry {
-        0..=3 => {
+        0 => {
             let bytes = policy_answer(batch, parts);
             io::write_all(STDOUT_FILENO, &bytes)
         }
+        1..=3 => write_call(batch, parts, state, events),
         _ => false,
     }
 }
 
-fn answer_next(batch: &mut [u8]) -> bool
-    requires { ⌜ longest ≤ length (now batch) ⌝ }
+fn answer_next(batch: &mut [u8], state: &mut [u8], events: &mut [u8]) -> bool
+    requires { ⌜ (longest ≤ length (now batch)) × (longestField ≤ length (now state)) × (longestField ≤ length (now events)) ⌝ }
 {
     let call = read_call(batch);
     match call {
-        Call::Whole(parts) => answer(batch, parts),
+        Call::Whole(parts) => answer(batch, parts, state, events),
         Call::Short(_) => false,
     }
 }
@@ -70,8 +85,13 @@ fn answer_next(batch: &mut [u8]) -> bool
 // A proved loop has to end, and nothing says that the input does: the loop counts down from a number that no run uses up.
 fn main() {
     let mut batch = room();
+    let mut state = io::large_buffer();
+    let mut events = io::large_buffer();
     let mut turns = u64::MAX;
-    while turns > 0 && answer_next(&mut batch) {
+    while turns > 0 {
+        if !answer_next(&mut batch, &mut state, &mut events) {
+            return;
+        }
         turns -= 1;
     }
 }

@@ -1,44 +1,16 @@
 -- `main` is safe and ends: the measure is the number of turns that are left. Assumes nothing.
-use Rattle.trials.specs.Calls.{longest}
-use lib.ListN.{length}
 use mathlib.Core.Path.{_≡_}
+use lib.ListN.{length}
+use Rattle.trials.specs.Calls.{longest}
 use borrow.Author.Needs.{needs}
-use native.Mathlib.Omega.{arith}
 use Rattle.trials.proofs.main.Statement.{statement}
 use Rattle.trials.proofs.main.Tie as tie
 
 abbrev Inv-loop : tie.InvT-loop
-Inv-loop batch₀ turns₀ batch turns = longest ≡ length batch
+Inv-loop batch₀ state₀ events₀ turns₀ batch state events turns = (longest ≡ length batch) × (65536 ≡ length state) × (65536 ≡ length events)
 
 abbrev μ-loop : tie.MeasureT-loop
-μ-loop batch₀ turns₀ batch turns = turns
-
-room-requires : tie.Need-room-requires Inv-loop μ-loop
-room-requires c κs = search needs
-
-loop-holds : tie.Need-loop-holds Inv-loop μ-loop
-loop-holds c = search needs
-
-slice-aggregate-answer-next : tie.Need-slice-aggregate-answer-next Inv-loop μ-loop
-slice-aggregate-answer-next c = search needs
-
-answer-next-requires : tie.Need-answer-next-requires Inv-loop μ-loop
-answer-next-requires c κs = search needs
-
-sub-turns : tie.Need-sub-turns Inv-loop μ-loop
-sub-turns c = search needs
-
-loop-less : tie.Need-loop-less Inv-loop μ-loop
-loop-less c = search needs
-
-loop-again : tie.Need-loop-again Inv-loop μ-loop
-loop-again c = search needs
-
-returns : tie.Need-returns Inv-loop μ-loop
-returns c = search needs
-
-returns-2 : tie.Need-returns-2 Inv-loop μ-loop
-returns-2 c = search needs
+μ-loop batch₀ state₀ events₀ turns₀ batch state events turns = turns
 
 pub main-spec : {M : Type 1} → statement M
 main-spec =
@@ -46,12 +18,16 @@ main-spec =
     (tie.spec
     Inv-loop
     μ-loop
-    room-requires
-    loop-holds
-    slice-aggregate-answer-next
-    answer-next-requires
-    sub-turns
-    loop-less
-    loop-again
-    returns
-    returns-2)
+    (λ c κs. search needs)
+    (λ c κs. search needs)
+    (λ c κs. search needs)
+    (λ c. search needs)
+    (λ c. search needs)
+    (λ c. search needs)
+    (λ c. search needs)
+    (λ c κs. search needs)
+    (λ c. search needs)
+    (λ c. search needs)
+    (λ c. search needs)
+    (λ c. search needs)
+    (λ c. search needs))

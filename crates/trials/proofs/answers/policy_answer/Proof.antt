@@ -1,27 +1,27 @@
 -- `policy_answer` meets its contract: a policy that is placed lies inside the bytes. Assumes nothing.
-use Rattle.trials.proofs.CallLaws.{policy-inside, policy-part}
-use Rattle.trials.specs.Calls.{answerBytes}
+use Rattle.trials.proofs.CallLaws.{policy-part}
+use Rattle.trials.specs.Calls.{part, answerBytes}
 use Rattle.rules.specs.Check.{check}
 use Rattle.policy.specs.Bytes.{Bytes}
 use mathlib.Core.Path.{ap, _∙_}
-use native.Mathlib.Omega.{arith}
 use borrow.Author.Needs.{needs}
 use Rattle.trials.proofs.answers.policy_answer.Statement.{statement}
 use Rattle.trials.proofs.answers.policy_answer.Tie as tie
 
 sub-check-bytes : tie.Need-sub-check-bytes
-sub-check-bytes c = omega (arith, policy-inside _ _ (c .before .pre) .0)
+sub-check-bytes c = search needs
 
 part-check-bytes-start : tie.Need-part-check-bytes-start
-part-check-bytes-start c = omega (arith, policy-inside _ _ (c .before .pre) .0, policy-inside _ _ (c .before .pre) .1)
+part-check-bytes-start c = search needs
 
 part-check-bytes-end : tie.Need-part-check-bytes-end
-part-check-bytes-end c = omega (arith, policy-inside _ _ (c .before .pre) .0, policy-inside _ _ (c .before .pre) .1)
+part-check-bytes-end c = search needs
 
 check-bytes-requires : tie.Need-check-bytes-requires
 check-bytes-requires c κs = search needs
 
 returns : tie.Need-returns
+unfolding part
 returns c = c .check-bytes .ensures ∙ ap (λ (p : Bytes). answerBytes (check p)) (policy-part _ _ (c .before .before .before .pre))
 
 pub policy-answer-spec : {M : Type 1} → statement M

@@ -51,7 +51,7 @@ byte-requires-2 : tie.Need-byte-requires-2
 byte-requires-2 c κs = search needs
 
 returns-5 : tie.Need-returns-5
-returns-5 c = let e = events-is _ _ _ (state-is _ _ _ (policy-is _ _ (c .before .before .before .before .before .before .before .field-end .ensures .0)) (c .before .before .before .before .before .field-end2 .ensures .0)) (c .before .before .before .field-end3 .ensures .0) in whole _ _ _ (omega (arith, e)) (c .before .before .before .before .before .before .before .before .before .before .pre) (policy-is _ _ (c .before .before .before .before .before .before .before .field-end .ensures .0)) (state-is _ _ _ (policy-is _ _ (c .before .before .before .before .before .before .before .field-end .ensures .0)) (c .before .before .before .before .before .field-end2 .ensures .0)) e (c .before .byte .ensures) (c .byte2 .ensures)
+returns-5 c = let e = events-is _ _ _ (state-is _ _ _ (policy-is _ _ (c .before .before .before .before .before .before .before .field-end .ensures .0)) (c .before .before .before .before .before .field-end2 .ensures .0)) (c .before .before .before .field-end3 .ensures .0) in whole _ _ _ (omega (arith, e)) (c .before .before .before .before .before .before .before .before .before .before .pre) (policy-is _ _ (c .before .before .before .before .before .before .before .field-end .ensures .0)) (state-is _ _ _ (policy-is _ _ (c .before .before .before .before .before .before .before .field-end .ensures .0)) (c .before .before .before .before .before .field-end2 .ensures .0)) (c .before .before .before .before .before .field-end2 .ensures .1) e (c .before .before .before .field-end3 .ensures .1) (c .before .byte .ensures) (c .byte2 .ensures)
 
 pub find-spec : {M : Type 1} → statement M
 find-spec =

@@ -1,0 +1,33 @@
+-- `run` is safe and ends: the buffers keep their lengths, and the measure is the number of turns that are left. Assumes nothing.
+use mathlib.Core.Path.{_≡_}
+use lib.ListN.{length}
+use borrow.Author.Needs.{needs}
+use Rattle.guardrun.proofs.run.Statement.{statement}
+use Rattle.guardrun.proofs.run.Tie as tie
+
+abbrev Inv-loop : tie.InvT-loop
+Inv-loop policy state₀ events₀ text₀ request₀ left₀ state events text request left = (248 ≡ length state) × (512 ≡ length events) × (4096 ≡ length text)
+
+abbrev μ-loop : tie.MeasureT-loop
+μ-loop policy state₀ events₀ text₀ request₀ left₀ state events text request left = left
+
+pub run-spec : {M : Type 1} → statement M
+run-spec =
+    tie.close
+    (tie.spec
+    Inv-loop
+    μ-loop
+    (λ c κs. search needs)
+    (λ c. search needs)
+    (λ c. search needs)
+    (λ c. search needs)
+    (λ c. search needs)
+    (λ c κs. search needs)
+    (λ c. search needs)
+    (λ c κs. search needs)
+    (λ c. search needs)
+    (λ c κs. search needs)
+    (λ c. search needs)
+    (λ c. search needs)
+    (λ c. search needs)
+    (λ c. search needs))

@@ -1,0 +1,4 @@
+pub mod Text
+pub mod Said
+pub mod Buffer
+pub mod Worked
