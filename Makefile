@@ -1,5 +1,5 @@
 # Makefile: `make sample SAMPLE=small-sequential-and` builds guardrun and runs it on a sample; `make trials SEED=7 COUNT=200000` compares the
-# guard with second/, on as many calls as one likes.
+# guard with second/, on as many calls as one likes; `make bench` counts what calls cost.
 SAMPLE = brazing-furnace
 SEED = 1
 COUNT = 20000
@@ -12,4 +12,7 @@ sample:
 trials:
 	tests/trials $(COUNT) $(SEED)
 
-.PHONY: sample trials
+bench:
+	bench/run
+
+.PHONY: sample trials bench

@@ -1,0 +1,98 @@
+/* bench.c: one kind of call of one guard on one policy, so many times: bench GUARD CALL POLICY COUNT [ACTION]. GUARD is ours or second,
+ * CALL is check, open, offer or close. Prints the answer, or, with COUNT 0, how much stack one call took. */
+#include "../include/fretmere.h"
+#include "../second/guard.h"
+
+#include <stdbool.h>
+#include <stdio.h>
+#include <stdlib.h>
+#include <string.h>
+
+enum { PAINTED = 65536, PAINT = 0xA5 };
+
+static uint8_t policy[FRETMERE_POLICY_MOST], opened[FRETMERE_STATE_BYTES], state[FRETMERE_STATE_BYTES], events[FRETMERE_EVENT_BYTES];
+static size_t length;
+
+static unsigned ours(char call, uint8_t action)
+{
+    uint64_t regulated = 0, effects = 0;
+
+    switch (call) {
+    case 'h':
+        return fretmere_check(policy, length, &regulated, &effects) != 0 ? 0 : (unsigned)regulated;
+    case 'p':
+        return fretmere_open(policy, length, state, sizeof state, events, sizeof events) & 0xFFFFFF;
+    case 'f':
+        return fretmere_offer(policy, length, state, sizeof state, events, sizeof events, action) & 0xFFFFFF;
+    default:
+        return fretmere_close(policy, length, state, sizeof state, events, sizeof events) & 0xFFFFFF;
+    }
+}
+
+static unsigned answer(guard_answer a) { return (unsigned)a.status << 16 | a.events; }
+
+static unsigned second(char call, uint8_t action)
+{
+    switch (call) {
+    case 'h':
+        return (unsigned)guard_check(policy, length).regulated.bits;
+    case 'p':
+        return answer(guard_open(policy, length, state, sizeof state, events, sizeof events));
+    case 'f':
+        return answer(guard_offer(policy, length, state, sizeof state, events, sizeof events, action));
+    default:
+        return answer(guard_close(policy, length, state, sizeof state, events, sizeof events));
+    }
+}
+
+static unsigned one_call(bool second_guard, char call, uint8_t action)
+{
+    memcpy(state, opened, sizeof state);
+    return second_guard ? second(call, action) : ours(call, action);
+}
+
+/* The stack below the caller's frame: painted before a call, and after it how much of it was written. */
+__attribute__((noinline)) static size_t stack(bool paint)
+{
+    volatile uint8_t *room = __builtin_alloca(PAINTED);
+    size_t i = 0;
+
+    for (; i < PAINTED && paint; i++) {
+        room[i] = PAINT;
+    }
+    while (i < PAINTED && room[i] == PAINT) {
+        i++;
+    }
+    return PAINTED - i;
+}
+
+int main(int words, char **word)
+{
+    FILE *file = words >= 5 ? fopen(word[3], "rb") : NULL;
+
+    if (file == NULL) {
+        fprintf(stderr, "bench GUARD CALL POLICY COUNT [ACTION]\n");
+        return 2;
+    }
+    length = fread(policy, 1, sizeof policy, file);
+    fclose(file);
+    const bool second_guard = word[1][0] == 's';
+    const char call = word[2][1];
+    const uint8_t action = words > 5 ? (uint8_t)atoi(word[5]) : 0;
+    const long count = atol(word[4]);
+    unsigned last = 0;
+
+    guard_open(policy, length, opened, sizeof opened, events, sizeof events);
+    if (count == 0) {
+        memcpy(state, opened, sizeof state);
+        stack(true);
+        last = second_guard ? second(call, action) : ours(call, action);
+        printf("%zu\n", stack(false));
+        return last == 0xFFFFFFFF;
+    }
+    for (long i = 0; i < count; i++) {
+        last = one_call(second_guard, call, action);
+    }
+    printf("%u\n", last);
+    return 0;
+}

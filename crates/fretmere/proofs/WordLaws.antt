@@ -1,0 +1,42 @@
+-- An answer and the word that stands for it. Assumes nothing.
+use Prim.Native.Nat.{ℕ, _+_, _*_, _≤_}
+use native.Mathlib.Omega.{arith}
+use mathlib.Core.Path.{_≡_, refl, sym, _∙_, ap, subst}
+use Rattle.policy.specs.Bytes.{Bytes}
+use Rattle.rules.specs.Check.{Answer as Checked, passes, refused}
+use Rattle.turns.specs.Status.{Status, statusNumber}
+use Rattle.turns.specs.Turn.{Request}
+use Rattle.turns.specs.Entries.{Reply, answers, refuses, Result, entry}
+use Rattle.turns.proofs.Bounds.{answered-emits}
+use Rattle.calling.specs.declared.Answer as guard
+use Rattle.calling.specs.declared.Answer.the-variants.{Answered, Refused}
+use Rattle.calling.specs.Replies.{spoken}
+use Rattle.fretmere.specs.Words.{Says, word, Few}
+
+pub answered-word : (n s : ℕ) (x : Reply) → Answered n s ≡ spoken x → s * 65536 + n ≡ word x
+unfolding spoken word
+answered-word n s (answers k t) e =
+    let a : n ≡ k = cc in let b : s ≡ statusNumber t = cc in omega arith
+answered-word n s (refuses k) e = cc
+
+pub refused-word : (k : ℕ) (x : Reply) → Refused k ≡ spoken x → k * 16777216 ≡ word x
+unfolding spoken word
+refused-word k (answers n s) e = cc
+refused-word k (refuses i) e = let a : k ≡ i = cc in omega arith
+
+few : (policy : Bytes) (q : Request) (state room : Bytes) (x : Reply) → entry policy q state room .reply ≡ x → Few (spoken x)
+unfolding spoken
+few policy q state room (answers n s) e = let h = answered-emits policy q state room n s e .room-enough in omega arith
+few policy q state room (refuses k) e = tt
+
+-- the answer of a call has few events
+pub few-answer : (policy : Bytes) (q : Request) (state room : Bytes) (r : guard.Answer) → r ≡ spoken (entry policy q state room .reply) → Few r
+few-answer policy q state room r e = subst Few (sym e) (few policy q state room (entry policy q state room .reply) refl)
+
+-- ---- the check's answer
+
+pub passed-says : {r e : ℕ} (x : Checked) (a b : ℕ) → passes r e ≡ x → Says x 0 a b r e
+passed-says {r} {e} x a b p = subst (λ (y : Checked). Says y 0 a b r e) p (refl, (refl, refl))
+
+pub refused-says : {k : ℕ} (x : Checked) (a b : ℕ) → refused k ≡ x → Says x k a b a b
+refused-says {k} x a b p = subst (λ (y : Checked). Says y k a b a b) p (refl, (refl, refl))

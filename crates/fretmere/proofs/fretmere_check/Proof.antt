@@ -1,0 +1,31 @@
+-- `fretmere_check` meets its contract. Assumes nothing.
+use mathlib.Core.Path.{_∙_, sym, ap}
+use Rattle.checking.specs.Answers.{answered}
+use Rattle.fretmere.proofs.WordLaws.{passed-says, refused-says}
+use borrow.Author.Needs.{needs}
+use Rattle.fretmere.proofs.fretmere_check.Statement.{statement}
+use Rattle.fretmere.proofs.fretmere_check.Tie as tie
+use Rattle.fretmere.proofs.fretmere_check.Reads as reads
+use Rattle.fretmere.proofs.fretmere_check.Lts as lts
+use Rattle.checking.proofs.check.Reads as check-reads
+
+check-requires : tie.Need-check-requires
+check-requires c κs = search needs
+
+enum-known-checked : tie.Need-enum-known-checked
+enum-known-checked c = search needs
+
+enum-known-checked-2 : tie.Need-enum-known-checked-2
+enum-known-checked-2 c = search needs
+
+returns : tie.Need-returns
+unfolding answered
+returns c = let e = ap answered (sym (c .before .checked .given .1)) ∙ c .before .before .before .check .ensures in passed-says _ _ _ e
+
+returns-2 : tie.Need-returns-2
+unfolding answered
+returns-2 c = let e = ap answered (sym (c .before .checked2 .given .1)) ∙ c .before .before .before .check .ensures in refused-says _ _ _ e
+
+pub fretmere-check-spec : {M : Type 1} → statement M
+fretmere-check-spec =
+    tie.close (tie.spec check-requires enum-known-checked enum-known-checked-2 returns returns-2)

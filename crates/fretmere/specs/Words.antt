@@ -1,0 +1,30 @@
+-- What the C functions return: the entry points' answers, each in one word. Assumes nothing.
+use Prim.Native.Nat.{ℕ, _+_, _*_, _≤_}
+use mathlib.Core.Path.{_≡_}
+use Rattle.policy.specs.Bytes.{Bytes}
+use Rattle.rules.specs.Check.{Answer, passes, refused}
+use Rattle.turns.specs.Status.{statusNumber}
+use Rattle.turns.specs.Entries.{Reply, answers, refuses, Result}
+use Rattle.calling.specs.declared.Answer as guard
+use Rattle.calling.specs.declared.Answer.the-variants.{Answered, Refused}
+
+-- The check: zero and both sets, or the refusal's number, and then both stay as they were.
+abbrev pub Says : Answer → ℕ → (a b a′ b′ : ℕ) → Type 0
+Says (passes r e) n a b a′ b′ = (n ≡ 0) × ((a′ ≡ r) × (b′ ≡ e))
+Says (refused k) n a b a′ b′ = (n ≡ k) × ((a′ ≡ a) × (b′ ≡ b))
+
+-- The others: the refusal in the highest byte, or the root's status in the byte below it and the number of events in the rest.
+unfoldable pub word : Reply → ℕ
+word (answers n s) = 65536 * statusNumber s + n
+word (refuses k) = 16777216 * k
+
+-- an answer whose events can be counted in the word
+abbrev pub Few : guard.Answer → Type 0
+Few (Answered n s) = n ≤ 256
+Few (Refused k) = Unit {0}
+
+-- just this: the word, and every byte of the two lent buffers
+pub record Gave (x : Result) (r : ℕ) (bytes room : Bytes) : Type 0 where
+  pub answer : r ≡ word (x .reply)
+  pub state : bytes ≡ x .state
+  pub events : room ≡ x .events

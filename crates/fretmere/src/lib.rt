@@ -1,0 +1,66 @@
+// The static library for C: the four entry points on the caller's buffers, each answer in one word.
+ghost use mathlib.Core.Path.{_≡_};
+ghost use Prim.Native.Nat.{_≤_};
+ghost use Rattle.rules.specs.Check.{check};
+ghost use Rattle.turns.specs.Entries.{Reply, opens, offers, closes};
+ghost use Rattle.calling.specs.Replies.{spoken};
+ghost use Rattle.fretmere.specs.Words.{Says, Few, word, Gave};
+use calling::Answer;
+use checking::Checked;
+use checking::check;
+use guard::close;
+use guard::offer;
+use guard::open;
+
+// Zero, and the two sets written; or the refusal's number, and nothing written.
+#[no_mangle]
+pub extern "C" fn fretmere_check(policy: &[u8], regulated: &mut u64, effects: &mut u64) -> u8
+    ensures { λ r. ⌜ Says (check (now (policy .entry))) r (now (regulated .entry)) (now (effects .entry)) (now (regulated .exit)) (now (effects .exit)) ⌝ }
+{
+    let checked = check(policy);
+    match checked {
+        Checked::Passed(r, e) => {
+            *regulated = r.bits;
+            *effects = e.bits;
+            0
+        }
+        Checked::Refused(n) => n,
+    }
+}
+
+// An answer in one word: the refusal in its highest byte, or the status in the byte below it and the number of events in the rest.
+fn packed(answer: Answer) -> u32
+    requires { ⌜ Few answer ⌝ }
+    ensures { λ r. ⌜ ((x : Reply) → answer ≡ spoken x → r ≡ word x) ⌝ }
+{
+    match answer {
+        Answer::Answered(events, status) => status as u32 * 65536 + events as u32,
+        Answer::Refused(number) => number as u32 * 16777216,
+    }
+}
+
+#[no_mangle]
+pub extern "C" fn fretmere_open(policy: &[u8], state: &mut [u8], events: &mut [u8]) -> u32
+    ensures { λ r. ⌜ Gave (opens (now (policy .entry)) (now (state .entry)) (now (events .entry))) r (now (state .exit)) (now (events .exit)) ⌝ }
+{
+    packed(open(policy, state, events))
+}
+
+#[no_mangle]
+pub extern "C" fn fretmere_offer(
+    policy: &[u8],
+    state: &mut [u8],
+    events: &mut [u8],
+    action: u8,
+) -> u32
+    ensures { λ r. ⌜ Gave (offers (now (policy .entry)) (now (state .entry)) (now (events .entry)) action) r (now (state .exit)) (now (events .exit)) ⌝ }
+{
+    packed(offer(policy, state, events, action))
+}
+
+#[no_mangle]
+pub extern "C" fn fretmere_close(policy: &[u8], state: &mut [u8], events: &mut [u8]) -> u32
+    ensures { λ r. ⌜ Gave (closes (now (policy .entry)) (now (state .entry)) (now (events .entry))) r (now (state .exit)) (now (events .exit)) ⌝ }
+{
+    packed(close(policy, state, events))
+}

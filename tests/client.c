@@ -1,0 +1,188 @@
+/* client.c: a C program over the library. It makes 01's small calls by the header's names, then those of a batch on standard input (as
+ * second/draw draws it, arbitrary bytes among them), each beside the second guard's, and watches the surroundings of every buffer. */
+#include "../include/fretmere.h"
+#include "../second/guard.h"
+
+#include <stdbool.h>
+#include <stdio.h>
+#include <stdlib.h>
+#include <string.h>
+
+enum { CHECK = 0, OPEN = 1, OFFER = 2, CLOSE = 3, MOST = 65535, MARGIN = 64, MARK = 0xA5 };
+
+static void fail(const char *what, unsigned long call)
+{
+    printf("client: call %lu: %s\n", call, what);
+    exit(1);
+}
+
+/* A buffer in the middle of marked bytes. */
+struct field {
+    size_t length;
+    uint8_t around[MARGIN + MOST + MARGIN];
+};
+
+static uint8_t *bytes(struct field *field) { return field->around + MARGIN; }
+
+static bool marked(const uint8_t *from, size_t length)
+{
+    for (size_t i = 0; i < length; i++) {
+        if (from[i] != MARK) {
+            return false;
+        }
+    }
+    return true;
+}
+
+static bool surrounded(const struct field *field)
+{
+    return marked(field->around, MARGIN) && marked(field->around + MARGIN + field->length, MARGIN);
+}
+
+static bool read_field(struct field *field)
+{
+    const int high = getchar();
+    const int low = getchar();
+
+    if (high == EOF || low == EOF) {
+        return false;
+    }
+    field->length = (size_t)high << 8 | (size_t)low;
+    memset(field->around, MARK, MARGIN);
+    memset(field->around + MARGIN + field->length, MARK, MARGIN);
+    return fread(bytes(field), 1, field->length, stdin) == field->length;
+}
+
+static struct field policy, state, events;
+static uint8_t kept[MOST], their_state[MOST], their_events[MOST];
+
+static void compare_check(unsigned long call)
+{
+    const guard_sets theirs = guard_check(bytes(&policy), policy.length);
+    uint64_t sets[4] = {7, 8, 9, 10};
+    const uint8_t refusal = fretmere_check(bytes(&policy), policy.length, &sets[1], &sets[2]);
+
+    if (refusal != theirs.refusal) {
+        fail("another refusal of the check", call);
+    }
+    if (refusal == FRETMERE_NOT_REFUSED ? sets[1] != theirs.regulated.bits || sets[2] != theirs.effect.bits : sets[1] != 8 || sets[2] != 9) {
+        fail("other sets", call);
+    }
+    if (sets[0] != 7 || sets[3] != 10) {
+        fail("a byte beside the sets is written", call);
+    }
+}
+
+static guard_answer their_answer(int entry, uint8_t action)
+{
+    memcpy(their_state, bytes(&state), state.length);
+    memcpy(their_events, bytes(&events), events.length);
+    switch (entry) {
+    case OPEN:
+        return guard_open(bytes(&policy), policy.length, their_state, state.length, their_events, events.length);
+    case OFFER:
+        return guard_offer(bytes(&policy), policy.length, their_state, state.length, their_events, events.length, action);
+    default:
+        return guard_close(bytes(&policy), policy.length, their_state, state.length, their_events, events.length);
+    }
+}
+
+static fretmere_answer our_answer(int entry, uint8_t action)
+{
+    switch (entry) {
+    case OPEN:
+        return fretmere_open(bytes(&policy), policy.length, bytes(&state), state.length, bytes(&events), events.length);
+    case OFFER:
+        return fretmere_offer(bytes(&policy), policy.length, bytes(&state), state.length, bytes(&events), events.length, action);
+    default:
+        return fretmere_close(bytes(&policy), policy.length, bytes(&state), state.length, bytes(&events), events.length);
+    }
+}
+
+static void compare_call(int entry, uint8_t action, unsigned long call)
+{
+    const guard_answer theirs = their_answer(entry, action);
+    const fretmere_answer ours = our_answer(entry, action);
+
+    if (fretmere_refusal(ours) != theirs.refusal || fretmere_status(ours) != theirs.status || fretmere_events(ours) != theirs.events) {
+        fail("another answer", call);
+    }
+    if (memcmp(bytes(&state), their_state, state.length) != 0 || memcmp(bytes(&events), their_events, events.length) != 0) {
+        fail("another buffer", call);
+    }
+}
+
+static unsigned long compare_batch(void)
+{
+    unsigned long calls = 0;
+
+    for (int entry = getchar(); entry != EOF; entry = getchar(), calls++) {
+        if (!read_field(&policy) || !read_field(&state) || !read_field(&events)) {
+            fail("the batch ends in the middle of it", calls);
+        }
+        const int action = getchar();
+        memcpy(kept, bytes(&policy), policy.length);
+        if (entry == CHECK) {
+            compare_check(calls);
+        } else {
+            compare_call(entry, (uint8_t)action, calls);
+        }
+        if (!surrounded(&policy) || !surrounded(&state) || !surrounded(&events)) {
+            fail("a byte beside a buffer is written", calls);
+        }
+        if (memcmp(kept, bytes(&policy), policy.length) != 0) {
+            fail("the policy is written", calls);
+        }
+    }
+    return calls;
+}
+
+static void expect(bool holds, const char *what)
+{
+    if (!holds) {
+        printf("client: %s\n", what);
+        exit(1);
+    }
+}
+
+/* Policy L of 01: set {2}, counter 3; 0 next 1/4, 1 spend 1 2/3, 2 ok 0, 3 halt, 4 end. */
+static const uint8_t L[] = {
+    0, 82, 1, 1, 0, 5,
+    1, 0, 0, 5, 0, 0, 0, 3, 0, 0, 0, 0, 0, 0, 0, 4,
+    1, 0, 1, 4, 0, 0, 0, 0, 0, 0, 0, 0,
+    6, 0, 2, 3, 0, 0, 0, 0, 0, 0, 0, 1,
+    2, 0, 0, 0, 0, 0, 0, 0, 0, 0, 0, 0,
+    8, 0, 0, 0, 0, 0, 0, 0, 0, 0, 0, 0,
+    7, 0, 0, 0, 0, 0, 0, 0, 0, 0, 0, 0,
+};
+
+/* P1 and P2 of 01: "82 bytes, sets {2} and empty"; "L on 1, 2, 2, 1: all accepted; a further 2 halts." Then refusal 14. */
+static void small_calls(void)
+{
+    uint8_t saved[FRETMERE_STATE_BYTES], room[FRETMERE_EVENT_BYTES];
+    uint64_t regulated, effects;
+    fretmere_answer answer;
+
+    expect(fretmere_check(L, sizeof L, &regulated, &effects) == FRETMERE_NOT_REFUSED && regulated == 4 && effects == 0, "P1");
+    expect(fretmere_check(L, sizeof L - 1, &regulated, &effects) == FRETMERE_LENGTH, "a byte short");
+    answer = fretmere_open(L, sizeof L, saved, sizeof saved, room, sizeof room);
+    expect(fretmere_status(answer) == FRETMERE_RUNNING && fretmere_events(answer) == 0, "P2, opening");
+    for (const char *a = "\1\2\2\1"; *a != '\0'; a++) {
+        answer = fretmere_offer(L, sizeof L, saved, sizeof saved, room, sizeof room, (uint8_t)*a);
+        expect(fretmere_status(answer) == FRETMERE_RUNNING && fretmere_events(answer) == 1, "P2, an answer");
+        expect(room[0] == FRETMERE_ACCEPTED && room[1] == (uint8_t)*a, "P2, an event");
+    }
+    answer = fretmere_offer(L, sizeof L, saved, sizeof saved, room, sizeof room, 2);
+    expect(fretmere_status(answer) == FRETMERE_HALTED && fretmere_events(answer) == 0, "P2, the further 2");
+    answer = fretmere_offer(L, sizeof L, saved, sizeof saved, room, sizeof room, 2);
+    expect(fretmere_refusal(answer) == FRETMERE_ROOT_HALTED && fretmere_events(answer) == 0, "a halted root");
+    answer = fretmere_open(L, sizeof L, saved, sizeof saved, room, sizeof room - 1);
+    expect(fretmere_refusal(answer) == FRETMERE_BUFFERS, "a short event buffer");
+}
+
+int main(void)
+{
+    small_calls();
+    printf("client: the small calls and %lu of a batch as they should be\n", compare_batch());
+    return 0;
+}
