@@ -8,7 +8,7 @@ use Rattle.policy.specs.Bytes.{Bytes, number}
 use Rattle.turns.specs.Status.{Status, isHalted}
 use Rattle.turns.specs.Turn.{Request, opening, offer, close}
 use Rattle.turns.specs.Saved.{stateSize}
-use Rattle.turns.specs.Entries.{Reply, answers, refuses, Result, eventRoom, entry}
+use Rattle.turns.specs.Entries.{Reply, answers, refuses, eventRoom, entry}
 use Rattle.guardrun.specs.Text.{ascii, line, decimal, word, lines}
 
 -- What is printed of a call, and whether nothing follows it.
@@ -33,7 +33,8 @@ unfoldable pub ending : Bool → Status → Bytes
 ending true s = line (ascii "close ") (word s)
 ending false s = []
 
--- "A refused policy prints only `refused N`; a refused action prints that line and goes on." In a run closing is never refused.
+-- "A refused policy prints only `refused N`; a refused action prints that line and goes on." Closing a state that does not fit would be
+-- refused too; each answered call leaves one that fits (`answered-leaves` of crate turns).
 unfoldable pub lastIfRefused : Request → Bool
 lastIfRefused opening = true
 lastIfRefused (offer a) = false

@@ -1,9 +1,8 @@
 // The bytes of an answer.
 ghost use mathlib.Core.Path.{_≡_};
-ghost use Prim.Native.Nat.{_%_, _+_, _-_, _≤_};
+ghost use Prim.Native.Nat.{_+_, _-_, _≤_};
 ghost use lib.ListN.{length, take};
 ghost use Rattle.rules.specs.Check.{check};
-ghost use Rattle.checking.specs.Answers.{answered};
 ghost use mathlib.Core.List.{_∷_, _++_};
 ghost use Rattle.policy.specs.Bytes.{spell};
 ghost use Rattle.turns.specs.Entries.{entry};
@@ -17,34 +16,28 @@ use guard::close;
 use guard::offer;
 use guard::open;
 
-fn low(x: u64) -> u8
-    ensures { λ r. ⌜ r ≡ x % 256 ⌝ }
-{
-    (x % 256) as u8
-}
-
 // A refusal number and two sets, the highest byte first.
 fn spell(refusal: u8, x: u64, y: u64) -> [u8; 17]
     ensures { λ r. ⌜ r ≡ refusal ∷ (spell 8 x ++ spell 8 y) ⌝ }
 {
     [
         refusal,
-        low(x >> 56),
-        low(x >> 48),
-        low(x >> 40),
-        low(x >> 32),
-        low(x >> 24),
-        low(x >> 16),
-        low(x >> 8),
-        low(x >> 0),
-        low(y >> 56),
-        low(y >> 48),
-        low(y >> 40),
-        low(y >> 32),
-        low(y >> 24),
-        low(y >> 16),
-        low(y >> 8),
-        low(y >> 0),
+        ((x >> 56) % 256) as u8,
+        ((x >> 48) % 256) as u8,
+        ((x >> 40) % 256) as u8,
+        ((x >> 32) % 256) as u8,
+        ((x >> 24) % 256) as u8,
+        ((x >> 16) % 256) as u8,
+        ((x >> 8) % 256) as u8,
+        ((x >> 0) % 256) as u8,
+        ((y >> 56) % 256) as u8,
+        ((y >> 48) % 256) as u8,
+        ((y >> 40) % 256) as u8,
+        ((y >> 32) % 256) as u8,
+        ((y >> 24) % 256) as u8,
+        ((y >> 16) % 256) as u8,
+        ((y >> 8) % 256) as u8,
+        ((y >> 0) % 256) as u8,
     ]
 }
 
@@ -73,10 +66,12 @@ fn reply_bytes(answer: Answer) -> [u8; 4]
     ensures { λ r. ⌜ r ≡ replyBytes answer ⌝ }
 {
     match answer {
-        Answer::Answered(count, status) => {
-            let n = count as u64;
-            [0, low(n >> 8), low(n >> 0), status]
-        }
+        Answer::Answered(count, status) => [
+            0,
+            ((count >> 8) % 256) as u8,
+            ((count >> 0) % 256) as u8,
+            status,
+        ],
         Answer::Refused(n) => [n, 0, 0, 0],
     }
 }

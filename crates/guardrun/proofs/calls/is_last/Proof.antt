@@ -1,5 +1,5 @@
 -- `is_last` meets its contract. Assumes nothing.
-use mathlib.Core.Path.{ap, sym, _∙_, refl}
+use mathlib.Core.Path.{ap, sym, _∙_}
 use Rattle.turns.specs.Status.{statusOf}
 use Rattle.guardrun.specs.Said.{isLast}
 use Rattle.guardrun.specs.Buffer.{asked}

@@ -1,5 +1,5 @@
 -- `reply_bytes` meets its contract. Assumes nothing.
-use mathlib.Core.Path.{refl}
+use mathlib.Core.Path.{ap, sym}
 use Rattle.policy.specs.Bytes.{spell}
 use Rattle.trials.specs.Calls.{replyBytes}
 use borrow.Author.Needs.{needs}
@@ -8,19 +8,19 @@ use Rattle.trials.proofs.answers.reply_bytes.Tie as tie
 
 returns : tie.Need-returns
 unfolding replyBytes spell
-returns c = rw (c .before .before .before .answer .given .1, c .before .low .ensures, c .low2 .ensures) refl
+returns c = ap replyBytes (sym (c .before .answer .given .1))
 
 returns-2 : tie.Need-returns-2
 unfolding replyBytes
-returns-2 c = rw (c .before .answer2 .given .1) refl
+returns-2 c = ap replyBytes (sym (c .before .answer2 .given .1))
 
 pub reply-bytes-spec : {M : Type 1} → statement M
 reply-bytes-spec =
     tie.close
     (tie.spec
     (λ c. search needs)
-    (λ c κs. search needs)
-    (λ c κs. search needs)
+    (λ c. search needs)
+    (λ c. search needs)
     (λ c. search needs)
     returns
     returns-2)

@@ -1,79 +1,32 @@
--- `spell` meets its contract: each byte is what `low` gives. Assumes nothing.
+-- `spell` meets its contract: each byte is the definition's. Assumes nothing.
+use mathlib.Core.Path.{refl}
 use Rattle.policy.specs.Bytes.{spell}
 use borrow.Author.Needs.{needs}
 use Rattle.trials.proofs.answers.spell.Statement.{statement}
 use Rattle.trials.proofs.answers.spell.Tie as tie
 
-low-requires : tie.Need-low-requires
-low-requires c κs = search needs
-
-low-requires-2 : tie.Need-low-requires-2
-low-requires-2 c κs = search needs
-
-low-requires-3 : tie.Need-low-requires-3
-low-requires-3 c κs = search needs
-
-low-requires-4 : tie.Need-low-requires-4
-low-requires-4 c κs = search needs
-
-low-requires-5 : tie.Need-low-requires-5
-low-requires-5 c κs = search needs
-
-low-requires-6 : tie.Need-low-requires-6
-low-requires-6 c κs = search needs
-
-low-requires-7 : tie.Need-low-requires-7
-low-requires-7 c κs = search needs
-
-low-requires-8 : tie.Need-low-requires-8
-low-requires-8 c κs = search needs
-
-low-requires-9 : tie.Need-low-requires-9
-low-requires-9 c κs = search needs
-
-low-requires-10 : tie.Need-low-requires-10
-low-requires-10 c κs = search needs
-
-low-requires-11 : tie.Need-low-requires-11
-low-requires-11 c κs = search needs
-
-low-requires-12 : tie.Need-low-requires-12
-low-requires-12 c κs = search needs
-
-low-requires-13 : tie.Need-low-requires-13
-low-requires-13 c κs = search needs
-
-low-requires-14 : tie.Need-low-requires-14
-low-requires-14 c κs = search needs
-
-low-requires-15 : tie.Need-low-requires-15
-low-requires-15 c κs = search needs
-
-low-requires-16 : tie.Need-low-requires-16
-low-requires-16 c κs = search needs
-
 returns : tie.Need-returns
 unfolding spell
-returns c = rw (c .before .before .before .before .before .before .before .before .before .before .before .before .before .before .before .low .ensures, c .before .before .before .before .before .before .before .before .before .before .before .before .before .before .low2 .ensures, c .before .before .before .before .before .before .before .before .before .before .before .before .before .low3 .ensures, c .before .before .before .before .before .before .before .before .before .before .before .before .low4 .ensures, c .before .before .before .before .before .before .before .before .before .before .before .low5 .ensures, c .before .before .before .before .before .before .before .before .before .before .low6 .ensures, c .before .before .before .before .before .before .before .before .before .low7 .ensures, c .before .before .before .before .before .before .before .before .low8 .ensures, c .before .before .before .before .before .before .before .low9 .ensures, c .before .before .before .before .before .before .low10 .ensures, c .before .before .before .before .before .low11 .ensures, c .before .before .before .before .low12 .ensures, c .before .before .before .low13 .ensures, c .before .before .low14 .ensures, c .before .low15 .ensures, c .low16 .ensures)
+returns c = refl
 
 pub spell-spec : {M : Type 1} → statement M
 spell-spec =
     tie.close
     (tie.spec
-    low-requires
-    low-requires-2
-    low-requires-3
-    low-requires-4
-    low-requires-5
-    low-requires-6
-    low-requires-7
-    low-requires-8
-    low-requires-9
-    low-requires-10
-    low-requires-11
-    low-requires-12
-    low-requires-13
-    low-requires-14
-    low-requires-15
-    low-requires-16
+    (λ c. search needs)
+    (λ c. search needs)
+    (λ c. search needs)
+    (λ c. search needs)
+    (λ c. search needs)
+    (λ c. search needs)
+    (λ c. search needs)
+    (λ c. search needs)
+    (λ c. search needs)
+    (λ c. search needs)
+    (λ c. search needs)
+    (λ c. search needs)
+    (λ c. search needs)
+    (λ c. search needs)
+    (λ c. search needs)
+    (λ c. search needs)
     returns)
