@@ -7,7 +7,7 @@ use mathlib.Core.List.{List, [], _++_, map, append-assoc}
 use lib.ListN.{length, getD, length-append, length-map}
 use Rattle.actions.specs.Sets.{Action, ActionSet, has}
 use Rattle.policy.specs.Bytes.{Bytes, number, put}
-use Rattle.policy.specs.Records.{mostNodes}
+use Rattle.policy.specs.Records.{mostNodes, nodeCount, stepCount}
 use Rattle.policy.specs.Tree.{Tree, leaf, trivial, unsatisfiable, node, numberOf, regulated, tree}
 use Rattle.policy.proofs.ByteLaws.{put-sets}
 use Rattle.rules.proofs.LawfulTree.{lawful, numbers-below-nodes}
@@ -32,6 +32,8 @@ use Rattle.memory.proofs.Begin.{held-status}
 use Rattle.sides.proofs.Nodes.{number-at}
 use Rattle.calling.specs.declared.Answer.{Answer}
 use Rattle.calling.specs.declared.Answer.the-variants.{Answered}
+use Rattle.calling.specs.declared.Call.{Call}
+use Rattle.calling.specs.Calls.{asked, Counted, Allowed}
 use Rattle.calling.specs.Replies.{spoken, Gave}
 use Rattle.calling.specs.Parts.{carried, Played, verdicts, Added, Ended}
 use Rattle.calling.proofs.DriveBounds.{phase-told, phase-ends, turn-told, unasked-told, phase-room, turn-room, steps-fit}
@@ -95,6 +97,11 @@ pub ready : {policy sets firsts state work : List ℕ} → Passed policy → Tab
 ready ok tabled a b x y =
     let r = room ok in
     record { passed = ok; tabled = tabled; sets-size = omega arith; firsts-size = omega arith; inside = omega arith; states = x; works = y }
+
+-- what the tables of 31 entries ask
+pub tables-fit : {policy : Bytes} {n m : ℕ} → Passed policy → Counted policy n m
+    → (Passed policy × ((n ≡ nodeCount policy) × (m ≡ stepCount policy))) × ((n ≤ 31) × (n ≤ 31))
+tables-fit ok c = let h = subst (λ (k : ℕ). k ≤ 31) (sym (c .nodes-are)) (room ok .few) in ((ok, (c .nodes-are, c .steps-are)), (h, h))
 
 -- a phase's events have room, and its steps can be counted
 pub phase-fits : {policy : Bytes} → Passed policy → (ph : Phase) (s : State) (room : Bytes) → 512 ≤ length room
@@ -220,3 +227,12 @@ pub carried-out : (policy : Bytes) (q : Request) (state room : Bytes) (s : State
     → Gave (carried (tree policy) (call (tree policy) q s) room) r bytes room′ → Gave (carriedOut policy q state room) r bytes room′
 unfolding carriedOut carried
 carried-out policy q state room s {r} {bytes} {room′} e g = subst (λ (x : State). Gave (carried (tree policy) (call (tree policy) q x) room) r bytes room′) e g
+
+-- ---- which call it is
+
+pub allowed-as : {policy state room : Bytes} {x y : Call} → x ≡ y → Allowed policy state room x → Allowed policy state room y
+allowed-as {policy} {state} {room} e h = subst (Allowed policy state room) e h
+
+pub gave-as : (policy state room : Bytes) {x y : Call} {r : Answer} {bytes room′ : Bytes} → x ≡ y
+    → Gave (carriedOut policy (asked y) state room) r bytes room′ → Gave (carriedOut policy (asked x) state room) r bytes room′
+gave-as policy state room {r = r} {bytes} {room′} e g = subst (λ (z : Call). Gave (carriedOut policy (asked z) state room) r bytes room′) (sym e) g

@@ -1,3 +1,5 @@
 mod EventLaws
 mod DriveBounds
 pub mod CallLaws
+mod Apart
+mod Made

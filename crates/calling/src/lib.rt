@@ -3,7 +3,6 @@ ghost use mathlib.Core.Path.{_≡_};
 ghost use mathlib.Core.Bool.{true};
 ghost use mathlib.Core.List.{[], _∷_};
 ghost use Prim.Native.Nat.{_+_, _*_, _≤_};
-ghost use lib.Dec.{T};
 ghost use lib.ListN.{length};
 ghost use Rattle.actions.specs.Sets.{Action};
 ghost use Rattle.policy.specs.Bytes.{Bytes, put};
@@ -13,25 +12,34 @@ ghost use Rattle.turns.specs.Status.{statusOf};
 ghost use Rattle.turns.specs.Turn as spec;
 ghost use Rattle.turns.specs.Turn.{before, opening, isAsked, call};
 ghost use Rattle.turns.specs.Events.{eventOf, eventBytes};
-ghost use Rattle.turns.specs.Saved.{statusAt, fits};
+ghost use Rattle.turns.specs.Saved.{statusAt};
 ghost use Rattle.turns.specs.Entries.{carriedOut};
-ghost use Rattle.tables.specs.Tables.{Tabled};
 ghost use Rattle.memory.specs.Memory.{phaseOf, view, held};
 ghost use Rattle.starting.specs.Ready.{Ready};
+ghost use Rattle.calling.specs.declared.Call.the-variants.{Open, Offer, Close};
+ghost use Rattle.calling.specs.Calls.{asked, Counted, Allowed};
 ghost use Rattle.calling.specs.Replies.{Gave};
 ghost use Rattle.calling.specs.Parts.{carried, Played, verdicts, Added, Ended};
 use driving::drive;
 use reading::byte;
-use reading::word16;
 use resting::awaken::awaken;
 use resting::tidy::tidy;
 use starting::asks;
 use tables::prepare;
+use views::PolicyView;
+use views::view_of;
 
 // The number of events and the root's status, or a refusal number.
 pub enum Answer {
     Answered(usize, u8),
     Refused(u8),
+}
+
+// Which call it is.
+pub enum Call {
+    Open,
+    Offer(u8),
+    Close,
 }
 
 const BEFORE: u8 = 0;
@@ -46,51 +54,104 @@ const SUPPRESSED: u8 = 2;
 
 const HALTED: u8 = 5;
 
-pub fn carry_open(policy: &[u8], state: &mut [u8], events: &mut [u8]) -> Answer
-    requires { ⌜ Passed (now policy) × ((length (now state) ≡ 248) × (512 ≤ length (now events))) ⌝ }
+// A call on the caller's file, state and events: through a view of the file.
+pub fn carry_out(policy: &[u8], state: &mut [u8], events: &mut [u8], call: Call) -> Answer
+    requires { ⌜ Allowed (now policy) (now state) (now events) call ⌝ }
+    ensures { λ r. ⌜ Gave (carriedOut (now (policy .entry)) (asked call) (now (state .entry)) (now (events .entry))) r (now (state .exit)) (now (events .exit)) ⌝ }
+{
+    carry(view_of(policy), state, events, call)
+}
+
+// What follows takes the file and its counts, not the view: the borrow checker covers no function that holds one.
+fn carry<'a>(view: PolicyView<'a>, state: &mut [u8], events: &mut [u8], call: Call) -> Answer
+    requires { ⌜ Counted (now (view .file)) (view .nodes) (view .steps) × Allowed (now (view .file)) (now state) (now events) call ⌝ }
+    ensures { λ r. ⌜ Gave (carriedOut (now (view .entry .file)) (asked call) (now (state .entry)) (now (events .entry))) r (now (state .exit)) (now (events .exit)) ⌝ }
+{
+    carry_counted(view.file, view.nodes, view.steps, state, events, call)
+}
+
+fn carry_counted(
+    policy: &[u8],
+    nodes: usize,
+    steps: usize,
+    state: &mut [u8],
+    events: &mut [u8],
+    call: Call,
+) -> Answer
+    requires { ⌜ Counted (now policy) nodes steps × Allowed (now policy) (now state) (now events) call ⌝ }
+    ensures { λ r. ⌜ Gave (carriedOut (now (policy .entry)) (asked call) (now (state .entry)) (now (events .entry))) r (now (state .exit)) (now (events .exit)) ⌝ }
+{
+    match call {
+        Call::Open => carry_open(policy, nodes, steps, state, events),
+        Call::Offer(action) => carry_offer(policy, nodes, steps, state, events, action),
+        Call::Close => carry_close(policy, nodes, steps, state, events),
+    }
+}
+
+fn carry_open(
+    policy: &[u8],
+    nodes: usize,
+    steps: usize,
+    state: &mut [u8],
+    events: &mut [u8],
+) -> Answer
+    requires { ⌜ Counted (now policy) nodes steps × Allowed (now policy) (now state) (now events) Open ⌝ }
     ensures { λ r. ⌜ Gave (carriedOut (now (policy .entry)) opening (now (state .entry)) (now (events .entry))) r (now (state .exit)) (now (events .exit)) ⌝ }
 {
     let mut work = [0u8; 155];
-    awaken(policy, byte(policy, 3) as usize, state, &mut work);
-    one_phase(policy, state, &mut work, events, AFTER)
+    awaken(policy, nodes, state, &mut work);
+    one_phase(policy, nodes, steps, state, &mut work, events, AFTER)
 }
 
-pub fn carry_close(policy: &[u8], state: &mut [u8], events: &mut [u8]) -> Answer
-    requires { ⌜ Passed (now policy) × ((length (now state) ≡ 248) × (512 ≤ length (now events))) ⌝ }
-    requires { ⌜ T (fits (now policy) (now state)) ⌝ }
+fn carry_close(
+    policy: &[u8],
+    nodes: usize,
+    steps: usize,
+    state: &mut [u8],
+    events: &mut [u8],
+) -> Answer
+    requires { ⌜ Counted (now policy) nodes steps × Allowed (now policy) (now state) (now events) Close ⌝ }
     ensures { λ r. ⌜ Gave (carriedOut (now (policy .entry)) spec.close (now (state .entry)) (now (events .entry))) r (now (state .exit)) (now (events .exit)) ⌝ }
 {
     let mut work = [0u8; 155];
-    one_phase(policy, state, &mut work, events, CLOSING)
+    one_phase(policy, nodes, steps, state, &mut work, events, CLOSING)
 }
 
 // Opening and closing: one phase of the root.
 fn one_phase(
     policy: &[u8],
+    nodes: usize,
+    steps: usize,
     state: &mut [u8],
     work: &mut [u8],
     events: &mut [u8],
     phase: u8,
 ) -> Answer
-    requires { ⌜ Passed (now policy) × ((length (now state) ≡ 248) × ((length (now work) ≡ 155) × (512 ≤ length (now events)))) ⌝ }
+    requires { ⌜ (Passed (now policy) × Counted (now policy) nodes steps) × ((length (now state) ≡ 248) × ((length (now work) ≡ 155) × (512 ≤ length (now events)))) ⌝ }
     ensures { λ r. ⌜ Gave (carried (tree (now (policy .entry))) (spec.phase (tree (now (policy .entry))) (phaseOf phase 0) (held (tree (now (policy .entry))) (view (now (state .entry)) (now (work .entry))))) (now (events .entry))) r (now (state .exit)) (now (events .exit)) ⌝ }
 {
     let mut sets = [0u64; 31];
     let mut firsts = [0u16; 31];
-    enter(policy, &mut sets, &mut firsts);
+    prepare(policy, nodes, steps, &mut sets, &mut firsts);
     let done = drive(policy, &sets, &firsts, state, work, events, 0, phase, 0);
     finish(policy, state, done.events)
 }
 
-pub fn carry_offer(policy: &[u8], state: &mut [u8], events: &mut [u8], action: u8) -> Answer
-    requires { ⌜ Passed (now policy) × ((length (now state) ≡ 248) × (512 ≤ length (now events))) ⌝ }
-    requires { ⌜ T (fits (now policy) (now state)) ⌝ }
+fn carry_offer(
+    policy: &[u8],
+    nodes: usize,
+    steps: usize,
+    state: &mut [u8],
+    events: &mut [u8],
+    action: u8,
+) -> Answer
+    requires { ⌜ Counted (now policy) nodes steps × Allowed (now policy) (now state) (now events) (Offer action) ⌝ }
     ensures { λ r. ⌜ Gave (carriedOut (now (policy .entry)) (spec.offer action) (now (state .entry)) (now (events .entry))) r (now (state .exit)) (now (events .exit)) ⌝ }
 {
     let mut sets = [0u64; 31];
     let mut firsts = [0u16; 31];
     let mut work = [0u8; 155];
-    enter(policy, &mut sets, &mut firsts);
+    prepare(policy, nodes, steps, &mut sets, &mut firsts);
     let count = play(policy, &sets, &firsts, state, &mut work, events, action);
     finish(policy, state, count)
 }
@@ -175,20 +236,6 @@ fn verdict(suppressed: bool) -> u8
         return SUPPRESSED;
     }
     ACCEPTED
-}
-
-// The tables of a call.
-fn enter(policy: &[u8], sets: &mut [u64], firsts: &mut [u16])
-    requires { ⌜ Passed (now policy) × ((length (now sets) ≡ 31) × (length (now firsts) ≡ 31)) ⌝ }
-    ensures { λ _. ⌜ Tabled (now (policy .entry)) (now (sets .exit)) (now (firsts .exit)) ⌝ }
-{
-    prepare(
-        policy,
-        byte(policy, 3) as usize,
-        word16(policy, 4) as usize,
-        sets,
-        firsts,
-    );
 }
 
 // Every answered call ends so: the state is made canonical, and the root's status read from it.

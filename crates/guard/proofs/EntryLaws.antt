@@ -11,6 +11,7 @@ use Rattle.actions.specs.declared.ActionSet.{ActionSet}
 use Rattle.actions.proofs.Tests.{not-not}
 use Rattle.policy.specs.Bytes.{Bytes}
 use Rattle.rules.specs.Check.{passes, refused, check}
+use Rattle.rules.proofs.Passed.{passed}
 use Rattle.checking.specs.declared.Checked.{Checked}
 use Rattle.checking.specs.declared.Checked.the-variants.{Passed, Refused}
 use Rattle.checking.specs.Answers.{answered}
@@ -22,6 +23,8 @@ use Rattle.turns.proofs.Answered.{kept-11}
 use Rattle.sides.proofs.StatusBytes.{not-halted}
 use Rattle.calling.specs.declared.Answer.{Answer}
 use Rattle.calling.specs.declared.Answer.the-variants as answers
+use Rattle.calling.specs.declared.Call.{Call}
+use Rattle.calling.specs.Calls.{readable, Allowed}
 use Rattle.calling.specs.Replies.{spoken, Gave}
 
 -- ---- what a refusal that does not apply says
@@ -58,6 +61,12 @@ module _ (policy : Bytes) {x : Checked} (e : answered x ≡ check policy) where
   pub check-refuses : {n : ℕ} → x ≡ Refused n → check policy ≡ refused n
   unfolding answered
   check-refuses h = sym e ∙ ap answered h
+
+-- ---- what carrying a call out asks
+
+pub allowed : (policy state room : Bytes) (x : Call) {r e : ℕ} → check policy ≡ passes r e → broken11 state room ≡ false → T (readable x policy state)
+    → Allowed policy state room x
+allowed policy state room x e f g = let k = room-enough state room f in record { passed = passed policy _ _ e; state-size = k .0; event-room = k .1; reads = g }
 
 -- ---- in order
 

@@ -6,9 +6,8 @@ use crate::refusals::number;
 use crate::refusals::short;
 use crate::refusals::unfit;
 use calling::Answer;
-use calling::carry_close;
-use calling::carry_offer;
-use calling::carry_open;
+use calling::Call;
+use calling::carry_out;
 use checking::Checked;
 use checking::check;
 
@@ -25,7 +24,7 @@ pub fn open(policy: &[u8], state: &mut [u8], events: &mut [u8]) -> Answer
     if short(state, events) {
         return Answer::Refused(11);
     }
-    carry_open(policy, state, events)
+    carry_out(policy, state, events, Call::Open)
 }
 
 // Offers an action.
@@ -49,7 +48,7 @@ pub fn offer(policy: &[u8], state: &mut [u8], events: &mut [u8], action: u8) -> 
     if halted {
         return Answer::Refused(14);
     }
-    carry_offer(policy, state, events, action)
+    carry_out(policy, state, events, Call::Offer(action))
 }
 
 // Closes the policy.
@@ -66,5 +65,5 @@ pub fn close(policy: &[u8], state: &mut [u8], events: &mut [u8]) -> Answer
     if unfit(policy, state) {
         return Answer::Refused(12);
     }
-    carry_close(policy, state, events)
+    carry_out(policy, state, events, Call::Close)
 }

@@ -10,7 +10,8 @@ ghost use Rattle.turns.specs.Entries.{broken11, broken12, broken14};
 use checking::Checked;
 use fitting::fits;
 use reading::byte;
-use reading::word16;
+use views::nodes_of;
+use views::steps_of;
 
 // The refusal's number; of a check that passed there is none.
 pub fn number(checked: Checked) -> u8
@@ -34,12 +35,7 @@ pub fn unfit(policy: &[u8], state: &[u8]) -> bool
     requires { ⌜ Passed (now policy) × (length (now state) ≡ stateSize) ⌝ }
     ensures { λ r. ⌜ r ≡ broken12 (now (policy .entry)) (now (state .entry)) ⌝ }
 {
-    !fits(
-        policy,
-        byte(policy, 3) as usize,
-        word16(policy, 4) as usize,
-        state,
-    )
+    !fits(policy, nodes_of(policy), steps_of(policy), state)
 }
 
 // 14: "the root has halted"

@@ -5,7 +5,9 @@ use Rattle.rules.proofs.Passed.{passed}
 use Rattle.checking.specs.Answers.{answered}
 use Rattle.turns.specs.Turn as spec
 use Rattle.turns.specs.Entries.{refusals, closes}
-use Rattle.guard.proofs.EntryLaws.{check-passes, check-refuses, room-enough, state-fits, refused-file, all-left, refused-here, next-left, none-left}
+use Rattle.calling.specs.declared.Call.the-variants.{Close}
+use Rattle.calling.specs.Calls.{asked, readable}
+use Rattle.guard.proofs.EntryLaws.{check-passes, check-refuses, allowed, room-enough, state-fits, refused-file, all-left, refused-here, next-left, none-left}
 use Rattle.guard.proofs.close.Statement.{statement}
 use Rattle.guard.proofs.close.Tie as tie
 
@@ -38,24 +40,23 @@ returns-3 c =
     let l₁ = next-left l (sym (c .before .before .before .before .short .ensures) ∙ c .before .before .before .if1 .left) in
     refused-here l₁ (sym (c .before .unfit .ensures) ∙ c .if2 .taken)
 
-carry-close-requires : tie.Need-carry-close-requires
-carry-close-requires c κs =
-    let a = c .before .before .before .before .before .before .before .before .before .before .before .before .before .before .before .args in (
-      (
-        passed (a .policy .now) _ _ (check-passes (a .policy .now) (c .before .before .before .before .before .before .before .before .before .before .before .check .ensures) (c .before .before .before .before .before .before .before .before .before .enum-told .given .1)),
-        room-enough (a .state .now) (a .events .now) (sym (c .before .before .before .before .before .before .short .ensures) ∙ c .before .before .before .before .before .if1 .left),
-      ),
-      state-fits (a .policy .now) (a .state .now) (sym (c .before .before .before .unfit .ensures) ∙ c .before .before .if2 .left),
-    )
+carry-out-requires : tie.Need-carry-out-requires
+unfolding readable
+carry-out-requires c κs =
+    let a = c .before .before .before .before .before .before .before .before .before .before .before .before .before .before .before .args in
+    allowed (a .policy .now) (a .state .now) (a .events .now) Close
+    (check-passes (a .policy .now) (c .before .before .before .before .before .before .before .before .before .before .before .check .ensures) (c .before .before .before .before .before .before .before .before .before .enum-told .given .1))
+    (sym (c .before .before .before .before .before .before .short .ensures) ∙ c .before .before .before .before .before .if1 .left)
+    (state-fits (a .policy .now) (a .state .now) (sym (c .before .before .before .unfit .ensures) ∙ c .before .before .if2 .left))
 
 returns-4 : tie.Need-returns-4
-unfolding closes refusals
+unfolding closes refusals asked
 returns-4 c =
     let a = c .before .before .before .before .before .before .before .before .before .before .before .before .before .before .before .before .before .before .before .before .args in
     let l = all-left (a .policy .now) spec.close (a .state .now) (a .events .now) (check-passes (a .policy .now) (c .before .before .before .before .before .before .before .before .before .before .before .before .before .before .before .before .check .ensures) (c .before .before .before .before .before .before .before .before .before .before .before .before .before .before .enum-told .given .1)) in
     let l₁ = next-left l (sym (c .before .before .before .before .before .before .before .before .before .before .before .short .ensures) ∙ c .before .before .before .before .before .before .before .before .before .before .if1 .left) in
     let l₂ = next-left l₁ (sym (c .before .before .before .before .before .before .before .before .unfit .ensures) ∙ c .before .before .before .before .before .before .before .if2 .left) in
-    none-left l₂ (c .before .before .before .before .carry-close .ensures)
+    none-left l₂ (c .before .before .before .before .carry-out .ensures)
 
 pub close-spec : {M : Type 1} → statement M
 close-spec =
@@ -74,7 +75,7 @@ close-spec =
     (λ c. search needs)
     (λ c. search needs)
     returns-3
-    carry-close-requires
+    carry-out-requires
     (λ c. search needs)
     (λ c. search needs)
     returns-4)

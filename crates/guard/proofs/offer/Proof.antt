@@ -6,7 +6,9 @@ use Rattle.rules.proofs.Passed.{passed}
 use Rattle.checking.specs.Answers.{answered}
 use Rattle.turns.specs.Turn as spec
 use Rattle.turns.specs.Entries.{refusals, offers}
-use Rattle.guard.proofs.EntryLaws.{check-passes, check-refuses, room-enough, state-fits, no-action, an-action}
+use Rattle.calling.specs.declared.Call.the-variants.{Offer}
+use Rattle.calling.specs.Calls.{asked, readable}
+use Rattle.guard.proofs.EntryLaws.{check-passes, check-refuses, allowed, room-enough, state-fits, no-action, an-action}
 use Rattle.guard.proofs.EntryLaws.{refused-file, all-left, refused-here, next-left, none-left}
 use Rattle.guard.proofs.offer.Statement.{statement}
 use Rattle.guard.proofs.offer.Tie as tie
@@ -62,18 +64,17 @@ returns-5 c =
     let l₃ = next-left l₂ (an-action (a .action) (omega arith)) in
     refused-here l₃ (sym (c .before .before .halted .ensures) ∙ c .if4 .taken)
 
-carry-offer-requires : tie.Need-carry-offer-requires
-carry-offer-requires c κs =
-    let a = c .before .before .before .before .before .before .before .before .before .before .before .before .before .before .before .before .before .before .before .args in (
-      (
-        passed (a .policy .now) _ _ (check-passes (a .policy .now) (c .before .before .before .before .before .before .before .before .before .before .before .before .before .before .before .check .ensures) (c .before .before .before .before .before .before .before .before .before .before .before .before .before .enum-told .given .1)),
-        room-enough (a .state .now) (a .events .now) (sym (c .before .before .before .before .before .before .before .before .before .before .short .ensures) ∙ c .before .before .before .before .before .before .before .before .before .if1 .left),
-      ),
-      state-fits (a .policy .now) (a .state .now) (sym (c .before .before .before .before .before .before .before .unfit .ensures) ∙ c .before .before .before .before .before .before .if2 .left),
-    )
+carry-out-requires : tie.Need-carry-out-requires
+unfolding readable
+carry-out-requires c κs =
+    let a = c .before .before .before .before .before .before .before .before .before .before .before .before .before .before .before .before .before .before .before .args in
+    allowed (a .policy .now) (a .state .now) (a .events .now) (Offer (a .action))
+    (check-passes (a .policy .now) (c .before .before .before .before .before .before .before .before .before .before .before .before .before .before .before .check .ensures) (c .before .before .before .before .before .before .before .before .before .before .before .before .before .enum-told .given .1))
+    (sym (c .before .before .before .before .before .before .before .before .before .before .short .ensures) ∙ c .before .before .before .before .before .before .before .before .before .if1 .left)
+    (state-fits (a .policy .now) (a .state .now) (sym (c .before .before .before .before .before .before .before .unfit .ensures) ∙ c .before .before .before .before .before .before .if2 .left))
 
 returns-6 : tie.Need-returns-6
-unfolding offers refusals
+unfolding offers refusals asked
 returns-6 c =
     let a = c .before .before .before .before .before .before .before .before .before .before .before .before .before .before .before .before .before .before .before .before .before .before .before .before .args in
     let l = all-left (a .policy .now) (spec.offer (a .action)) (a .state .now) (a .events .now) (check-passes (a .policy .now) (c .before .before .before .before .before .before .before .before .before .before .before .before .before .before .before .before .before .before .before .before .check .ensures) (c .before .before .before .before .before .before .before .before .before .before .before .before .before .before .before .before .before .before .enum-told .given .1)) in
@@ -81,7 +82,7 @@ returns-6 c =
     let l₂ = next-left l₁ (sym (c .before .before .before .before .before .before .before .before .before .before .before .before .unfit .ensures) ∙ c .before .before .before .before .before .before .before .before .before .before .before .if2 .left) in
     let l₃ = next-left l₂ (an-action (a .action) (omega arith)) in
     let l₄ = next-left l₃ (sym (c .before .before .before .before .before .before .before .before .before .halted .ensures) ∙ c .before .before .before .before .before .before .before .if4 .left) in
-    none-left l₄ (c .before .before .before .before .carry-offer .ensures)
+    none-left l₄ (c .before .before .before .before .carry-out .ensures)
 
 pub offer-spec : {M : Type 1} → statement M
 offer-spec =
@@ -107,7 +108,7 @@ offer-spec =
     (λ c. search needs)
     (λ c. search needs)
     returns-5
-    carry-offer-requires
+    carry-out-requires
     (λ c. search needs)
     (λ c. search needs)
     returns-6)

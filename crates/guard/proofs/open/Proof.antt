@@ -1,11 +1,12 @@
 -- `open` meets its contract: the check's refusal, refusal 11, or the call carried out. Assumes nothing.
 use mathlib.Core.Path.{sym, ap, _∙_}
 use borrow.Author.Needs.{needs}
-use Rattle.rules.proofs.Passed.{passed}
 use Rattle.checking.specs.Answers.{answered}
 use Rattle.turns.specs.Turn.{opening}
 use Rattle.turns.specs.Entries.{refusals, opens}
-use Rattle.guard.proofs.EntryLaws.{check-passes, check-refuses, room-enough, refused-file, all-left, refused-here, next-left, none-left}
+use Rattle.calling.specs.declared.Call.the-variants.{Open}
+use Rattle.calling.specs.Calls.{asked, readable}
+use Rattle.guard.proofs.EntryLaws.{check-passes, check-refuses, allowed, refused-file, all-left, refused-here, next-left, none-left}
 use Rattle.guard.proofs.open.Statement.{statement}
 use Rattle.guard.proofs.open.Tie as tie
 
@@ -23,20 +24,22 @@ returns-2 c =
     let l = all-left (a .policy .now) opening (a .state .now) (a .events .now) (check-passes (a .policy .now) (c .before .before .before .before .before .before .check .ensures) (c .before .before .before .before .enum-told .given .1)) in
     refused-here l (sym (c .before .short .ensures) ∙ c .if1 .taken)
 
-carry-open-requires : tie.Need-carry-open-requires
-carry-open-requires c κs =
-    let a = c .before .before .before .before .before .before .before .before .before .before .before .before .args in (
-      passed (a .policy .now) _ _ (check-passes (a .policy .now) (c .before .before .before .before .before .before .before .before .check .ensures) (c .before .before .before .before .before .before .enum-told .given .1)),
-      room-enough (a .state .now) (a .events .now) (sym (c .before .before .before .short .ensures) ∙ c .before .before .if1 .left),
-    )
+carry-out-requires : tie.Need-carry-out-requires
+unfolding readable
+carry-out-requires c κs =
+    let a = c .before .before .before .before .before .before .before .before .before .before .before .before .args in
+    allowed (a .policy .now) (a .state .now) (a .events .now) Open
+    (check-passes (a .policy .now) (c .before .before .before .before .before .before .before .before .check .ensures) (c .before .before .before .before .before .before .enum-told .given .1))
+    (sym (c .before .before .before .short .ensures) ∙ c .before .before .if1 .left)
+    tt
 
 returns-3 : tie.Need-returns-3
-unfolding opens refusals
+unfolding opens refusals asked
 returns-3 c =
     let a = c .before .before .before .before .before .before .before .before .before .before .before .before .before .before .before .before .before .args in
     let l = all-left (a .policy .now) opening (a .state .now) (a .events .now) (check-passes (a .policy .now) (c .before .before .before .before .before .before .before .before .before .before .before .before .before .check .ensures) (c .before .before .before .before .before .before .before .before .before .before .before .enum-told .given .1)) in
     let l₁ = next-left l (sym (c .before .before .before .before .before .before .before .before .short .ensures) ∙ c .before .before .before .before .before .before .before .if1 .left) in
-    none-left l₁ (c .before .before .before .before .carry-open .ensures)
+    none-left l₁ (c .before .before .before .before .carry-out .ensures)
 
 pub open-spec : {M : Type 1} → statement M
 open-spec =
@@ -51,7 +54,7 @@ open-spec =
     (λ c. search needs)
     (λ c. search needs)
     returns-2
-    carry-open-requires
+    carry-out-requires
     (λ c. search needs)
     (λ c. search needs)
     returns-3)

@@ -1,0 +1,31 @@
+-- `calling::carry` meets its contract: `Apart.antt`'s walk, at `carry_counted`. Assumes nothing.
+use contract.Running.{givenOf, tables, tablesOf}
+use denote.Enum.Laws as EL
+use denote.Triple.Spec.{tripleOf}
+use denote.Triple.Table.{entered, cited}
+use Rattle.turns.specs.Entries.{carriedOut}
+use Rattle.calling.specs.Calls.{asked, Counted, Allowed}
+use Rattle.calling.specs.Replies.{Gave}
+use Rattle.calling.proofs.Answer as S
+use Rattle.calling.proofs.Answer.Laws as S′
+use Rattle.calling.proofs.Call as K
+use Rattle.calling.proofs.Call.Laws as K′
+use Rattle.calling.proofs.Apart.{thin-meets}
+use Rattle.calling.proofs.carry_counted as carry-counted
+use Rattle.calling.proofs.carry_counted.Symbol as carry-counted-def
+use Rattle.calling.proofs.carry_counted.Met as carry-counted-thm
+use Rattle.calling.proofs.carry.Key.{name as #calling·carry}
+use Rattle.calling.proofs.carry as carry
+use Rattle.calling.proofs.carry.Statement as stated
+use Rattle.calling.proofs.carry.Code as code
+
+pub carry-spec : {M : Type 1} → stated.statement M
+unfolding code.routine tablesOf
+carry-spec 𝓤 H 𝓜 𝓖 𝓡 =
+    entered 𝓤 H (tripleOf 𝓤 H (𝓖 .A) carry.signature (carry.spec 𝓤 H (𝓖 .A) (𝓜 .mem) (𝓡 .run)))
+    (tables 𝓤 H 𝓜 𝓡 code.env .C) (tables 𝓤 H 𝓜 𝓡 code.env .Λ) #calling·carry code.function (code.unfolded 𝓤 H 𝓜 𝓡)
+    (thin-meets 𝓤 H (𝓖 .A) (givenOf 𝓤 H 𝓜 𝓖) S.the-row K.the-row
+    (λ p n m s e x. Counted p n m × Allowed p s e x) (λ p n m r s s′ e e′ x. Gave (carriedOut p (asked x) s e) r s′ e′)
+    S′.mir K′.mir (λ r w is. EL.lawful S.the-type S′.the-laws 𝓤 H (𝓖 .A) (givenOf 𝓤 H 𝓜 𝓖) tt .typed r _ is .0) carry-counted-def.name
+    (EL.val K.the-type K′.the-laws) (EL.tells K.the-type K′.the-laws) (λ x is. EL.lawful K.the-type K′.the-laws 𝓤 H (𝓖 .A) (givenOf 𝓤 H 𝓜 𝓖) tt .typed x _ is .0) (tablesOf 𝓤 H 𝓜 (tables 𝓤 H 𝓜 𝓡 code.env))
+    (cited 𝓤 H (tripleOf 𝓤 H (𝓖 .A) carry-counted.signature (carry-counted.spec 𝓤 H (𝓖 .A) (𝓜 .mem) (𝓡 .run))) 𝓜 𝓡 code.env carry-counted-def.name carry-counted-def.routine code.calls-calling·carry-counted (carry-counted-thm.met 𝓤 H 𝓜 𝓖 𝓡)))
