@@ -1,3 +1,4 @@
+pub mod Answers
 pub mod TargetLaws
 pub mod LeafLaws
 mod NodeSets

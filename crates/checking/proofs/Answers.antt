@@ -1,0 +1,29 @@
+-- An answer is known by its meaning: no two answers of the check mean the same. Assumes nothing.
+use Prim.Native.Nat.{ℕ}
+use mathlib.Core.Path.{_≡_, refl, sym, ap, ap₂}
+use mathlib.Core.Bool.{Bool, true, false}
+use Rattle.actions.proofs.Tests.{true-not-false}
+use Rattle.rules.specs.Check.{Answer, passes, refused}
+use Rattle.checking.specs.declared.Checked.{Checked}
+use Rattle.checking.specs.declared.Checked.the-variants.{Passed, Refused}
+use Rattle.checking.specs.Answers.{answered}
+
+isPass : Answer → Bool
+isPass (passes r e) = true
+isPass (refused n) = false
+
+first : Answer → ℕ
+first (passes r e) = r
+first (refused n) = n
+
+second : Answer → ℕ
+second (passes r e) = e
+second (refused n) = n
+
+pub one-answer : (a b : Checked) → answered a ≡ answered b → a ≡ b
+unfolding answered isPass first second
+one-answer (Passed r e) (Passed s f) h =
+    ap₂ (λ (x y : ℕ). Passed (record { bits = x }) (record { bits = y })) (ap first h) (ap second h)
+one-answer (Passed r e) (Refused n) h = true-not-false refl (ap isPass h)
+one-answer (Refused n) (Passed r e) h = true-not-false refl (ap isPass (sym h))
+one-answer (Refused n) (Refused m) h = ap (λ (x : ℕ). Refused x) (ap first h)
