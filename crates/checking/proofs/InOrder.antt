@@ -1,15 +1,16 @@
 -- The rules in order: the answer at the first that is broken, and the answer where none is. Assumes nothing.
 use Prim.Native.Nat.{ℕ, _≤_}
-use mathlib.Core.Path.{_≡_, refl, sym, _∙_, ap₂, subst}
+use native.Mathlib.Omega.{arith}
+use mathlib.Core.Path.{_≡_, refl, sym, _∙_, ap, ap₂, subst}
 use mathlib.Core.Bool.{Bool, true, false, not}
-use mathlib.Core.List.{List}
+use mathlib.Core.List.{List, map}
 use lib.Dec.{T, eqb, ltb, nltb→le}
 use lib.ListN.{length, getD}
-use Rattle.actions.specs.Sets.{ActionSet}
 use Rattle.actions.proofs.Tests.{or-false-left}
 use Rattle.policy.specs.Bytes.{Bytes, number}
-use Rattle.policy.specs.Records.{nodeCount, stepCount, lengthField}
-use Rattle.policy.specs.Tree.{regulated, tree}
+use Rattle.policy.specs.Lists.{summed}
+use Rattle.policy.specs.Records.{nodeCount, stepCount, lengthField, nodes}
+use Rattle.policy.specs.Tree.{owned, regulated}
 use Rattle.rules.specs.Layout.{broken1, broken2, broken3, broken4}
 use Rattle.rules.specs.Children.{broken5}
 use Rattle.rules.specs.Targets.{broken6}
@@ -18,12 +19,14 @@ use Rattle.rules.specs.Possible.{broken8}
 use Rattle.rules.specs.Interference.{effects, broken9}
 use Rattle.rules.specs.Spread.{broken10}
 use Rattle.rules.specs.Check.{passes, refused, rules, check}
-use Rattle.rules.proofs.Passed.{Lowest, here, after, lowest-refused, passes-all}
+use Rattle.rules.proofs.Passed.{here, after, lowest-refused, passes-all}
 use Rattle.records.specs.Frame.{Framed}
 use Rattle.records.proofs.Frame.{framed}
 use Rattle.checking.specs.Kept.{FrontKept, LeavesKept}
-use Rattle.checking.specs.Sets.{Treed, RegulatedFrom, EffectsFrom}
-use Rattle.checking.proofs.NodeSets.{top-is}
+use Rattle.surveying.specs.Leaves.{lowest, LeavesFound}
+use Rattle.surveying.proofs.LeafLaws.{six-sum, six-leaves}
+use Rattle.sets.specs.Sets.{Treed, RegulatedFrom, EffectsFrom}
+use Rattle.sets.proofs.TreeSets.{top-is}
 
 module _ (file : Bytes) where
   -- a test's outcome, from the function that made it
@@ -66,18 +69,48 @@ module _ (file : Bytes) where
     unfolding rules
     refused-5 a e = sym (lowest-refused file 5 (after (k .one) (after (k .two) (after (k .three) (after a (here e refl))))))
 
-    pub refused-6 : broken4 file ≡ false → broken5 file ≡ false → broken6 file ≡ true → refused 6 ≡ check file
+    refused-6 : broken4 file ≡ false → broken5 file ≡ false → broken6 file ≡ true → refused 6 ≡ check file
     unfolding rules
     refused-6 a b e = sym (lowest-refused file 6 (after (k .one) (after (k .two) (after (k .three) (after a (after b (here e refl)))))))
 
-    pub refused-7 : broken4 file ≡ false → broken5 file ≡ false → broken6 file ≡ false → broken7 file ≡ true → refused 7 ≡ check file
+    refused-7 : broken4 file ≡ false → broken5 file ≡ false → broken6 file ≡ false → broken7 file ≡ true → refused 7 ≡ check file
     unfolding rules
     refused-7 a b c e = sym (lowest-refused file 7 (after (k .one) (after (k .two) (after (k .three) (after a (after b (after c (here e refl))))))))
 
-    pub refused-8 : broken4 file ≡ false → broken5 file ≡ false → broken6 file ≡ false → broken7 file ≡ false → broken8 file ≡ true → refused 8 ≡ check file
+    refused-8 : broken4 file ≡ false → broken5 file ≡ false → broken6 file ≡ false → broken7 file ≡ false → broken8 file ≡ true → refused 8 ≡ check file
     unfolding rules
     refused-8 a b c d e =
         sym (lowest-refused file 8 (after (k .one) (after (k .two) (after (k .three) (after a (after b (after c (after d (here e refl)))))))))
+
+    -- the leaves own all steps, and the walks through them have found this of rules 6, 7 and 8
+    module _ (four : broken4 file ≡ false) (five : broken5 file ≡ false) (all : summed (map owned (nodes file)) ≡ m) {rule : ℕ} {effs ins : List ℕ}
+        (found : LeavesFound file n rule effs ins) where
+      rule-is : rule ≡ lowest (broken6 file) (broken7 file) (broken8 file)
+      rule-is = found .is ∙ ap (λ (b : Bool). lowest b (broken7 file) (broken8 file)) (sym (six-leaves (k .frame) all))
+
+      pub refused-leaf : (rule ≡ 0 → ⊥) → refused rule ≡ check file
+      unfolding lowest
+      refused-leaf some = ap refused rule-is ∙ go (broken6 file) (broken7 file) (broken8 file) refl refl refl
+        where
+          go : (six seven eight : Bool) → broken6 file ≡ six → broken7 file ≡ seven → broken8 file ≡ eight
+              → refused (lowest (broken6 file) (broken7 file) (broken8 file)) ≡ check file
+          go true seven eight a b c = ap (λ (x : Bool). refused (lowest x (broken7 file) (broken8 file))) a ∙ refused-6 four five a
+          go false true eight a b c = ap₂ (λ (x y : Bool). refused (lowest x y (broken8 file))) a b ∙ refused-7 four five a b
+          go false false true a b c = (λ i. refused (lowest (a i) (b i) (c i))) ∙ refused-8 four five a b c
+          go false false false a b c = absurd (some (rule-is ∙ λ i. lowest (a i) (b i) (c i)))
+
+      pub leaves-kept : rule ≡ 0 → LeavesKept file n m
+      unfolding lowest
+      leaves-kept none = go (broken6 file) (broken7 file) (broken8 file) refl refl refl
+        where
+          go : (six seven eight : Bool) → broken6 file ≡ six → broken7 file ≡ seven → broken8 file ≡ eight → LeavesKept file n m
+          go true seven eight a b c = let e = sym none ∙ rule-is ∙ ap (λ (x : Bool). lowest x (broken7 file) (broken8 file)) a in absurd (omega (arith, e))
+          go false true eight a b c = let e = sym none ∙ rule-is ∙ ap₂ (λ (x y : Bool). lowest x y (broken8 file)) a b in absurd (omega (arith, e))
+          go false false true a b c = let e = sym none ∙ rule-is ∙ (λ i. lowest (a i) (b i) (c i)) in absurd (omega (arith, e))
+          go false false false a b c = record { front = k; four = four; five = five; six = a; seven = b; eight = c }
+
+    pub refused-sum : (b : Bool) → b ≡ eqb (summed (map owned (nodes file))) m → b ≡ false → broken4 file ≡ false → broken5 file ≡ false → refused 6 ≡ check file
+    refused-sum b e h four five = refused-6 four five (six-sum (k .frame) b e h)
 
   module _ {n m : ℕ} (k : LeavesKept file n m) where
     pub treed : Treed file n m

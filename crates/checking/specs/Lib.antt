@@ -1,6 +1,2 @@
 pub mod Answers
-pub mod First
-pub mod Before
-pub mod Sets
-pub mod Spreads
 pub mod Kept

@@ -1,14 +1,11 @@
-// The check: rules 1 to 10, one function a rule, tried in order over the whole file where the caller keeps it.
+// The check: rules 1 to 10, each tried over the whole file, where the caller keeps it, before its answer counts. Rules 6 to 8 are tried in
+// one walk through each leaf.
 ghost use mathlib.Core.Path.{_≡_};
 ghost use Rattle.rules.specs.Check.{check};
+ghost use Rattle.rules.specs.Interference.{leafEffects};
+ghost use Rattle.surveying.specs.Leaves.{insertsOf, Held};
 ghost use Rattle.checking.specs.Answers.{answered};
 ghost use Rattle.checking.specs.Kept.{FrontKept, LeavesKept};
-use crate::leaves::broken6;
-use crate::leaves::broken7;
-use crate::leaves::broken8;
-use crate::sets::broken9;
-use crate::sets::sets;
-use crate::spread::broken10;
 use actions::ActionSet;
 use reading::byte;
 use reading::word16;
@@ -17,11 +14,11 @@ use records::layout::broken1;
 use records::layout::broken2;
 use records::layout::broken3;
 use records::layout::broken4;
-
-mod leaves;
-mod sets;
-mod spread;
-mod targets;
+use sets::broken9;
+use sets::sets;
+use spreads::broken10;
+use surveying::all_owned;
+use surveying::walk_leaves;
 
 // Either the root's two sets or a refusal number.
 pub enum Checked {
@@ -29,18 +26,20 @@ pub enum Checked {
     Refused(u8),
 }
 
-// Rules 9 and 10, and the answer.
-fn check_tree(policy: &[u8], n: usize, m: usize) -> Checked
+// Rules 9 and 10, and the answer. What the leaves' walks have found is in `leaves` and `inserts`.
+fn check_tree(policy: &[u8], n: usize, m: usize, leaves: &[u64], inserts: &[u32]) -> Checked
     requires { ⌜ LeavesKept (now policy) n m ⌝ }
+    requires { ⌜ Held leafEffects (now policy) n (now leaves) ⌝ }
+    requires { ⌜ Held insertsOf (now policy) n (now inserts) ⌝ }
     ensures { λ r. ⌜ answered r ≡ check (now (policy .entry)) ⌝ }
 {
     let mut regulated = [0u64; 31];
     let mut effects = [0u64; 31];
-    sets(policy, n, m, &mut regulated, &mut effects);
+    sets(policy, n, m, leaves, &mut regulated, &mut effects);
     if broken9(policy, n, m, &regulated, &effects) {
         return Checked::Refused(9);
     }
-    if broken10(policy, n, m) {
+    if broken10(policy, n, m, inserts) {
         return Checked::Refused(10);
     }
     Checked::Passed(
@@ -60,16 +59,16 @@ fn check_records(policy: &[u8], n: usize, m: usize) -> Checked
     if broken5(policy, n, m) {
         return Checked::Refused(5);
     }
-    if broken6(policy, n, m) {
+    if !all_owned(policy, n, m) {
         return Checked::Refused(6);
     }
-    if broken7(policy, n, m) {
-        return Checked::Refused(7);
+    let mut leaves = [0u64; 31];
+    let mut inserts = [0u32; 31];
+    let rule = walk_leaves(policy, n, m, &mut leaves, &mut inserts);
+    if rule != 0 {
+        return Checked::Refused(rule);
     }
-    if broken8(policy, n, m) {
-        return Checked::Refused(8);
-    }
-    check_tree(policy, n, m)
+    check_tree(policy, n, m, &leaves, &inserts)
 }
 
 pub fn check(policy: &[u8]) -> Checked

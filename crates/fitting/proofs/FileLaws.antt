@@ -19,8 +19,8 @@ use Rattle.records.specs.Frame.{Framed}
 use Rattle.records.proofs.Frame.{framed, node-inside}
 use Rattle.reading.specs.Code.{codeAt}
 use Rattle.reading.proofs.CodeLaws.{code-length, code-at, next-kind}
-use Rattle.checking.specs.First.{firstStep}
-use Rattle.checking.proofs.LeafLaws.{sum-is, leaf-place, inside-here, Counted, counted}
+use Rattle.surveying.specs.First.{firstStep}
+use Rattle.surveying.proofs.LeafLaws.{sum-is, leaf-place, inside-here, Counted, counted}
 use Rattle.turns.specs.Saved.{offsetAt, counterAt, waitsAt}
 
 -- ---- a leaf that waits

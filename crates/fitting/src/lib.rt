@@ -12,7 +12,7 @@ ghost use Rattle.policy.specs.Tree.{treeAt};
 ghost use Rattle.rules.specs.Passed.{Passed};
 ghost use Rattle.reading.specs.Kinds.{joinOf};
 ghost use Rattle.reading.specs.Code.{codeAt};
-ghost use Rattle.checking.specs.First.{firstStep};
+ghost use Rattle.surveying.specs.First.{firstStep};
 ghost use Rattle.turns.specs.Status.{statusOf, hasEnded, isHalted};
 ghost use Rattle.turns.specs.Saved.{stateSize, cellPlace, statusAt, statuses, undecided, bare, waitsAt, fitsUnder, zerosUpTo, fits};
 ghost use Rattle.fitting.specs.Alone.{fitsAlone};

@@ -1,4 +1,4 @@
+pub mod Marks
 mod Table
-mod Marks
 mod ModeSteps
-mod ModeWalk
+pub mod Final

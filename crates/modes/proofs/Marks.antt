@@ -1,19 +1,20 @@
 -- The marks in their bytes: what nothing stored, one store and one read are. Whatever opens `Agrees` is here. Assumes nothing.
-use Prim.Native.Nat.{ℕ, zero, suc, _+_, _*_, _<_}
+use Prim.Native.Nat.{ℕ, zero, suc, _+_, _*_, _≤_, _<_}
 use native.Mathlib.Omega.{arith}
 use mathlib.Core.Path.{_≡_, refl, sym, ap, _∙_, subst}
 use mathlib.Core.Bool.{Bool, true, false, _&&_, _||_}
-use mathlib.Core.List.{List, [], _∷_}
-use lib.Dec.{T, eqb, eqb→eq}
+use mathlib.Core.List.{List, [], _∷_, _++_}
+use lib.Bits.{bitOr, or-zero-r}
+use lib.Dec.{T, eqb, eqb→eq, lit≤}
 use lib.ListN.{length, getD, set, replicate, length-set, length-replicate, getD-replicate}
-use lib.Seq.{getD-set-same, getD-set-other}
+use lib.Seq.{getD-set-same, getD-set-other, set-getD}
 use borrow.Author.Tests.{eq-eqb}
 use Rattle.actions.proofs.Tests.{and-intro, and-left, and-right, of-yes}
 use Rattle.policy.specs.Bytes.{Bytes}
 use Rattle.policy.specs.Lists.{one}
 use Rattle.rules.specs.Modes.{Mode, idle, pending, closing, isIdle, isPending, isClosing, sameMode, Mark, marked}
 use Rattle.modes.specs.Table.{modeNumber, reaching}
-use Rattle.modes.specs.Marks.{Agrees, Adds}
+use Rattle.modes.specs.Marks.{Agrees, Adds, onlyIf, MarkedHere}
 
 -- before the first store nothing is marked
 pub none-marked : Agrees (replicate 192 0) []
@@ -73,12 +74,45 @@ mark-adds bs (suc zero) o l h ho = stored bs pending o l (omega arith) ho
 mark-adds bs (suc (suc zero)) o l h ho = stored bs closing o l (omega arith) ho
 mark-adds bs (suc (suc (suc n))) o l h ho = absurd (omega arith)
 
-one-eqb : (b : Bool) → eqb (one b) 1 ≡ b
+-- a byte that is 0 or 1, joined to one that is 1
+or-one : (b : Bool) → bitOr (one b) 1 ≡ 1
 unfolding one
-one-eqb true = refl
-one-eqb false = refl
+or-one true = refl
+or-one false = refl
 
-pub mark-read : (bs : Bytes) (m : Mode) (mode o : ℕ) (ks : List Mark) → modeNumber m ≡ mode → o < 64 → Agrees bs ks
-    → eqb (getD bs (64 * mode + o) 0) 1 ≡ marked m o ks
-mark-read bs m mode o ks e h g =
-    ap (λ (n : ℕ). eqb (getD bs (64 * n + o) 0) 1) (sym e) ∙ ap (λ (n : ℕ). eqb n 1) (g .at m o h) ∙ one-eqb (marked m o ks)
+-- the byte at a place, which is that of a mode and an offset
+place-one : (bs : Bytes) (mode o : ℕ) (ks : List Mark) → mode < 3 → o < 64 → Agrees bs ks → (b : Bool) × (getD bs (64 * mode + o) 0 ≡ one b)
+unfolding modeNumber
+place-one bs zero o ks h ho g = (marked idle o ks, g .at idle o ho)
+place-one bs (suc zero) o ks h ho g = (marked pending o ks, g .at pending o ho)
+place-one bs (suc (suc zero)) o ks h ho g = (marked closing o ks, g .at closing o ho)
+place-one bs (suc (suc (suc n))) o ks h ho g = absurd (omega arith)
+
+-- a store of the byte that was there with 0 or 1 joined to it
+pub join-adds : (bs : Bytes) (mode o here : ℕ) → length bs ≡ 192 → mode < 3 → o < 64 → here ≤ 1
+    → Adds bs (set bs (64 * mode + o) (bitOr (getD bs (64 * mode + o) 0) here)) (onlyIf (eqb here 1) (reaching mode o))
+unfolding onlyIf Adds
+join-adds bs mode o zero l h ho small ks g =
+    subst (λ (x : Bytes). Agrees x ks) (sym (ap (set bs (64 * mode + o)) (or-zero-r (getD bs (64 * mode + o) 0)) ∙ set-getD bs (64 * mode + o) 0)) g
+join-adds bs mode o (suc zero) l h ho small ks g =
+    let w = place-one bs mode o ks h ho g in
+    let e : bitOr (getD bs (64 * mode + o) 0) 1 ≡ 1 = ap (λ (x : ℕ). bitOr x 1) (w .1) ∙ or-one (w .0) in
+    subst (λ (x : ℕ). Agrees (set bs (64 * mode + o) x) (reaching mode o ++ ks)) (sym e) (mark-adds bs mode o l h ho ks g)
+join-adds bs mode o (suc (suc n)) l h ho small ks g = absurd (omega arith)
+
+-- the three bytes of an offset
+pub read-here : (bs : Bytes) (o : ℕ) (ks : List Mark) → o < 64 → Agrees bs ks → MarkedHere (getD bs o 0) (getD bs (64 + o) 0) (getD bs (128 + o) 0) o ks
+unfolding modeNumber
+read-here bs o ks h g =
+    let z : o ≡ 0 + o = omega arith in
+    record { idly = ap (λ (i : ℕ). getD bs i 0) z ∙ g .at idle o h; pendingly = g .at pending o h; closingly = g .at closing o h }
+
+one-small : (b : Bool) → one b ≤ 1
+unfolding one
+one-small true = lit≤ tt
+one-small false = lit≤ tt
+
+pub here-small : (i p c o : ℕ) (ks : List Mark) → MarkedHere i p c o ks → (i ≤ 1) × (p ≤ 1) × (c ≤ 1)
+here-small i p c o ks h =
+    let x = one-small (marked idle o ks) in let y = one-small (marked pending o ks) in let z = one-small (marked closing o ks) in
+    (subst (λ (n : ℕ). n ≤ 1) (sym (h .idly)) x, subst (λ (n : ℕ). n ≤ 1) (sym (h .pendingly)) y, subst (λ (n : ℕ). n ≤ 1) (sym (h .closingly)) z)

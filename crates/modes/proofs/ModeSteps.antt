@@ -5,16 +5,15 @@ use native.Mathlib.Omega.{arith}
 use mathlib.Core.Path.{_≡_, refl, sym, ap, _∙_, subst}
 use mathlib.Core.Bool.{Bool, true, false, _&&_, _||_, not}
 use mathlib.Core.List.{List, [], _∷_, _++_, append-assoc}
-use lib.Dec.{T, eqb, ltb, ltb→lt, lit≤}
+use lib.Dec.{T, eqb, ltb, ltb→lt}
 use lib.ListN.{List·getD-eq-default}
-use mir.Val.{boolByte}
 use Rattle.actions.proofs.Tests.{and-intro, and-left, and-right}
 use Rattle.policy.specs.Bytes.{Bytes}
 use Rattle.policy.specs.Lists.{one, every}
-use Rattle.policy.specs.Steps.{Step, next, ok, sup, ins, acase, spend, end, halt, targets}
-use Rattle.rules.specs.Modes.{Mode, idle, pending, closing, isIdle, Mark, stands, leads, marked, reachedBy, leadsIf, modeFits}
+use Rattle.policy.specs.Steps.{Step, next, ok, sup, ins, acase, spend, end, halt, targets, isNext}
+use Rattle.rules.specs.Modes.{Mode, idle, pending, closing, isIdle, Mark, leads, marked, reachedBy, leadsIf, modeFits}
 use Rattle.modes.specs.Table.{modeNumber, entryAt, reaching, ledBy, mayStand, Tells}
-use Rattle.modes.specs.Marks.{Agrees, Adds, roomFor, stepped, ledIf}
+use Rattle.modes.specs.Marks.{Agrees, Adds, roomFor, onlyIf, MarkedHere, fitsIn, stepped, Led}
 
 -- ---- room for the marks
 
@@ -54,35 +53,51 @@ room-led end m h = h
 room-led halt m h = h
 
 -- a step whose targets are inside leads where there is room
-pub room-step : (s : Step) (m : Mode) (kind first second : ℕ) → Tells kind first second s m → T (every (λ t. ltb t 64) (targets s))
-    → T (roomFor (ledBy (entryAt kind (modeNumber m)) first second))
-room-step s m kind first second t h = subst (λ (ks : List Mark). T (roomFor ks)) (t .led) (room-led s m h)
+pub room-step : (s : Step) (m : Mode) (kind first second e : ℕ) → Tells kind first second s m → T (every (λ t. ltb t 64) (targets s))
+    → e ≡ entryAt kind (modeNumber m) → T (roomFor (ledBy e first second))
+room-step s m kind first second e t h q =
+    subst (λ (ks : List Mark). T (roomFor ks)) (t .led ∙ ap (λ (x : ℕ). ledBy x first second) (sym q)) (room-led s m h)
 
 -- ---- a step
 
-pub adds-none : (bs : Bytes) (mode o : ℕ) → 3 ≤ mode → Adds bs bs (reaching mode o)
+none-only : (b : Bool) → onlyIf b [] ≡ []
+unfolding onlyIf
+none-only true = refl
+none-only false = refl
+
+pub adds-none : (b : Bool) (bs : Bytes) (mode o : ℕ) → 3 ≤ mode → Adds bs bs (onlyIf b (reaching mode o))
 unfolding Adds reaching
-adds-none bs mode o h ks g = subst (λ (new : List Mark). Agrees bs (new ++ ks)) (sym (List·getD-eq-default choices [] h)) g
+adds-none b bs mode o h ks g =
+    subst (λ (new : List Mark). Agrees bs (new ++ ks)) (sym (ap (onlyIf b) (List·getD-eq-default choices [] h) ∙ none-only b)) g
   where
     choices : List (List Mark)
     choices = (record { mode = idle; offset = o } ∷ []) ∷ (record { mode = pending; offset = o } ∷ []) ∷ (record { mode = closing; offset = o } ∷ []) ∷ []
 
-pub adds-both : (a b d : Bytes) (new last : List Mark) → Adds a b last → Adds b d new → Adds a d (new ++ last)
+adds-both : (a b d : Bytes) (new last : List Mark) → Adds a b last → Adds b d new → Adds a d (new ++ last)
 unfolding Adds
 adds-both a b d new last p q ks g = rw append-assoc (q (last ++ ks) (p ks g))
 
-pub lead-on : (b : Bool) (e e′ first second : ℕ) (x y z : Bytes) → b ≡ true → e ≡ e′ → Adds x y (reaching (e % 4) second)
-    → Adds y z (reaching (e / 4 % 4) first) → Adds x z (ledIf b e′ first second)
-unfolding ledIf ledBy
-lead-on b e e′ first second x y z t k u v = rw (t, ← k) (adds-both x y z (reaching (e / 4 % 4) first) (reaching (e % 4) second) u v)
+-- an entry's two marks
+pub lead-both : (b : Bool) (e first second : ℕ) (x y z : Bytes) → Adds x y (onlyIf b (reaching (e % 4) second))
+    → Adds y z (onlyIf b (reaching (e / 4 % 4) first)) → Adds x z (onlyIf b (ledBy e first second))
+unfolding onlyIf ledBy
+lead-both true e first second x y z u v = adds-both x y z (reaching (e / 4 % 4) first) (reaching (e % 4) second) u v
+lead-both false e first second x y z u v = adds-both x y z [] [] u v
 
-pub lead-off : (b : Bool) (e first second : ℕ) (x : Bytes) → b ≡ false → Adds x x (ledIf b e first second)
-unfolding ledIf Adds
-lead-off b e first second x t = rw t (λ ks g. g)
+-- the marks in three modes
+pub lead-three : (a b c d : Bytes) (i p q : List Mark) → Adds a b q → Adds b c p → Adds c d i → Adds a d (i ++ (p ++ q))
+lead-three a b c d i p q u v w = adds-both a c d i (p ++ q) (adds-both a b c p q u v) w
+
+append-three : (a b c d : List Mark) → (a ++ (b ++ c)) ++ d ≡ a ++ (b ++ (c ++ d))
+append-three a b c d = simp append-assoc
 
 or-false : (b : Bool) → (b || false) ≡ b
 or-false true = refl
 or-false false = refl
+
+or-true : (b : Bool) → (b || true) ≡ true
+or-true true = refl
+or-true false = refl
 
 and-four : (a b c d : Bool) → (((a && b) && c) && d) ≡ (a && b && c && d)
 and-four true true true d = refl
@@ -90,58 +105,95 @@ and-four true true false d = refl
 and-four true false c d = refl
 and-four false b c d = refl
 
-byte-one : (b : Bool) → boolByte b ≡ one b
+one-is : (b : Bool) → eqb (one b) 1 ≡ b
 unfolding one
-byte-one true = refl
-byte-one false = refl
+one-is true = refl
+one-is false = refl
 
-pub byte-small : (b : Bool) → boolByte b ≤ 1
-byte-small true = lit≤ tt
-byte-small false = lit≤ tt
+one-not : (b : Bool) → eqb (one b) 0 ≡ not b
+unfolding one
+one-not true = refl
+one-not false = refl
 
--- the modes in which the step at o is reached, as the code finds them
-pub record Found (kind o : ℕ) (ks : List Mark) (i p q : Bool) : Type 0 where
-  pub idly : i ≡ (marked idle o ks || eqb kind 1)
-  pub pendingly : p ≡ marked pending o ks
-  pub closingly : q ≡ marked closing o ks
+-- the modes in which the step at o is reached, as the code finds them: bytes that are 0 or 1
+pub record Found (kind o : ℕ) (ks : List Mark) (i p c : ℕ) : Type 0 where
+  pub idly : i ≡ one (marked idle o ks || eqb kind 1)
+  pub pendingly : p ≡ one (marked pending o ks)
+  pub closingly : c ≡ one (marked closing o ks)
+
+pub found-next : (o : ℕ) (ks : List Mark) (i p c : ℕ) → MarkedHere i p c o ks → Found 1 o ks 1 p c
+unfolding one
+found-next o ks i p c h = record { idly = sym (ap one (or-true (marked idle o ks))); pendingly = h .pendingly; closingly = h .closingly }
+
+pub found-other : (kind o : ℕ) (ks : List Mark) (i p c : ℕ) → eqb kind 1 ≡ false → MarkedHere i p c o ks → Found kind o ks i p c
+found-other kind o ks i p c n h = record {
+  idly = h .idly ∙ ap one (sym (ap (λ (t : Bool). marked idle o ks || t) n ∙ or-false (marked idle o ks)));
+  pendingly = h .pendingly;
+  closingly = h .closingly;
+}
 
 module _ (s : Step) (kind first second : ℕ) (tells : (m : Mode) → Tells kind first second s m)
-    (o : ℕ) (ks : List Mark) (i p q : Bool) (f : Found kind o ks i p q) where
-  in-idle : i ≡ reachedBy ks idle o s
+    (o : ℕ) (ks : List Mark) (i p c : ℕ) (f : Found kind o ks i p c) where
+  in-idle : i ≡ one (reachedBy ks idle o s)
   unfolding reachedBy isIdle
-  in-idle = f .idly ∙ ap (λ (t : Bool). marked idle o ks || t) (sym (tells idle .next))
+  in-idle = f .idly ∙ ap (λ (t : Bool). one (marked idle o ks || t)) (sym (tells idle .next))
 
-  in-pending : p ≡ reachedBy ks pending o s
+  in-pending : p ≡ one (reachedBy ks pending o s)
   unfolding reachedBy isIdle
-  in-pending = f .pendingly ∙ sym (or-false (marked pending o ks))
+  in-pending = f .pendingly ∙ ap one (sym (or-false (marked pending o ks)))
 
-  in-closing : q ≡ reachedBy ks closing o s
+  in-closing : c ≡ one (reachedBy ks closing o s)
   unfolding reachedBy isIdle
-  in-closing = f .closingly ∙ sym (or-false (marked closing o ks))
+  in-closing = f .closingly ∙ ap one (sym (or-false (marked closing o ks)))
 
-  led : (m : Mode) (b : Bool) → b ≡ reachedBy ks m o s → ledIf b (entryAt kind (modeNumber m)) first second ≡ leadsIf (reachedBy ks m o s) s m
-  unfolding ledIf leadsIf
-  led m b e = go b ∙ ap (λ (t : Bool). leadsIf t s m) e
+  led : (m : Mode) (x : ℕ) → x ≡ one (reachedBy ks m o s)
+      → onlyIf (eqb x 1) (ledBy (entryAt kind (modeNumber m)) first second) ≡ leadsIf (reachedBy ks m o s) s m
+  unfolding onlyIf leadsIf
+  led m x e =
+      ap (λ (t : Bool). onlyIf t (ledBy (entryAt kind (modeNumber m)) first second)) (ap (λ (n : ℕ). eqb n 1) e ∙ one-is (reachedBy ks m o s))
+      ∙ go (reachedBy ks m o s)
     where
-      go : (t : Bool) → ledIf t (entryAt kind (modeNumber m)) first second ≡ leadsIf t s m
+      go : (t : Bool) → onlyIf t (ledBy (entryAt kind (modeNumber m)) first second) ≡ leadsIf t s m
       go true = sym (tells m .led)
       go false = refl
 
-  pub lead-law : (b₀ b₁ b₂ b₃ : Bytes) → Adds b₀ b₁ (ledIf q (entryAt kind 2) first second) → Adds b₁ b₂ (ledIf p (entryAt kind 1) first second)
-      → Adds b₂ b₃ (ledIf i (entryAt kind 0) first second) → Agrees b₀ ks → Agrees b₃ (stepped o s ks)
+  lead-law : (before after : Bytes)
+      → Adds before after (onlyIf (eqb i 1) (ledBy (entryAt kind 0) first second)
+      ++ (onlyIf (eqb p 1) (ledBy (entryAt kind 1) first second) ++ onlyIf (eqb c 1) (ledBy (entryAt kind 2) first second)))
+      → Agrees before ks → Agrees after (stepped o s ks)
   unfolding stepped Adds modeNumber
-  lead-law b₀ b₁ b₂ b₃ x y z g =
-      rw (← led idle i in-idle, ← led pending p in-pending, ← led closing q in-closing) (z _ (y _ (x ks g)))
+  lead-law before after x g =
+      let u = led idle i in-idle in let v = led pending p in-pending in let w = led closing c in-closing in
+      subst (λ (l : List Mark). Agrees after l)
+      (append-three (onlyIf (eqb i 1) (ledBy (entryAt kind 0) first second)) (onlyIf (eqb p 1) (ledBy (entryAt kind 1) first second))
+      (onlyIf (eqb c 1) (ledBy (entryAt kind 2) first second)) ks ∙ (λ j. u j ++ (v j ++ (w j ++ ks)))) (x ks g)
 
-  pub fits-law : (may₀ may₁ may₂ : Bool) → may₀ ≡ mayStand (entryAt kind 0) → may₁ ≡ mayStand (entryAt kind 1) → may₂ ≡ mayStand (entryAt kind 2)
-      → (((eqb (boolByte i + boolByte p + boolByte q) 1 && (not i || may₀)) && (not p || may₁)) && (not q || may₂)) ≡ modeFits ks o s
-  unfolding modeFits modeNumber
-  fits-law may₀ may₁ may₂ u v w =
-      let x : boolByte i ≡ one (reachedBy ks idle o s) = byte-one i ∙ ap one in-idle in
-      let y : boolByte p ≡ one (reachedBy ks pending o s) = byte-one p ∙ ap one in-pending in
-      let z : boolByte q ≡ one (reachedBy ks closing o s) = byte-one q ∙ ap one in-closing in
-      let u′ : may₀ ≡ stands s idle = u ∙ sym (tells idle .may) in
-      let v′ : may₁ ≡ stands s pending = v ∙ sym (tells pending .may) in
-      let w′ : may₂ ≡ stands s closing = w ∙ sym (tells closing .may) in
-      and-four (eqb (boolByte i + boolByte p + boolByte q) 1) (not i || may₀) (not p || may₁) (not q || may₂)
-      ∙ (λ j. eqb (x j + y j + z j) 1 && (not (in-idle j) || u′ j) && (not (in-pending j) || v′ j) && (not (in-closing j) || w′ j))
+  fits-law : fitsIn (entryAt kind 0) (entryAt kind 1) (entryAt kind 2) i p c ≡ modeFits ks o s
+  unfolding modeFits modeNumber fitsIn
+  fits-law =
+      let x = in-idle in let y = in-pending in let z = in-closing in
+      let u : eqb i 0 ≡ not (reachedBy ks idle o s) = ap (λ (n : ℕ). eqb n 0) x ∙ one-not (reachedBy ks idle o s) in
+      let v : eqb p 0 ≡ not (reachedBy ks pending o s) = ap (λ (n : ℕ). eqb n 0) y ∙ one-not (reachedBy ks pending o s) in
+      let w : eqb c 0 ≡ not (reachedBy ks closing o s) = ap (λ (n : ℕ). eqb n 0) z ∙ one-not (reachedBy ks closing o s) in
+      let a = sym (tells idle .may) in let b = sym (tells pending .may) in let d = sym (tells closing .may) in
+      and-four (eqb (i + p + c) 1) (eqb i 0 || mayStand (entryAt kind 0)) (eqb p 0 || mayStand (entryAt kind 1)) (eqb c 0 || mayStand (entryAt kind 2))
+      ∙ (λ j. eqb (x j + y j + z j) 1 && (u j || a j) && (v j || b j) && (w j || d j))
+
+  -- the entries as they were read
+  module _ {e₀ e₁ e₂ : ℕ} (q₀ : e₀ ≡ entryAt kind 0) (q₁ : e₁ ≡ entryAt kind 1) (q₂ : e₂ ≡ entryAt kind 2) (before after : Bytes)
+      (x : Adds before after (onlyIf (eqb i 1) (ledBy e₀ first second) ++ (onlyIf (eqb p 1) (ledBy e₁ first second) ++ onlyIf (eqb c 1) (ledBy e₂ first second))))
+      (g : Agrees before ks) where
+    marks-after : Agrees after (stepped o s ks)
+    marks-after =
+        lead-law before after (subst (λ (l : List Mark). Adds before after l)
+        (λ j. onlyIf (eqb i 1) (ledBy (q₀ j) first second) ++ (onlyIf (eqb p 1) (ledBy (q₁ j) first second) ++ onlyIf (eqb c 1) (ledBy (q₂ j) first second))) x) g
+
+    -- a step that was held to the table, and a next, which was not
+    pub led-law : (fits : Bool) → isNext s ≡ false → fits ≡ fitsIn e₀ e₁ e₂ i p c → Led o s ks fits after
+    led-law fits n e = record {
+      marks = marks-after;
+      test = e ∙ (λ j. fitsIn (q₀ j) (q₁ j) (q₂ j) i p c) ∙ fits-law ∙ sym (ap (λ (t : Bool). t || modeFits ks o s) n);
+    }
+
+    pub next-law : isNext s ≡ true → Led o s ks true after
+    next-law n = record { marks = marks-after; test = sym (ap (λ (t : Bool). t || modeFits ks o s) n) }

@@ -5,7 +5,6 @@ use mathlib.Core.Bool.{Bool}
 use mathlib.Core.List.{List, [], _∷_, _++_}
 use lib.Dec.{eqb}
 use lib.ListN.{getD}
-use Rattle.policy.specs.Lists.{listed}
 use Rattle.policy.specs.Steps.{Step, isNext}
 use Rattle.rules.specs.Modes.{Mode, idle, pending, closing, Mark, stands, leads}
 
@@ -36,10 +35,6 @@ table =
 unfoldable pub entryAt : ℕ → ℕ → ℕ
 unfolding table
 entryAt kind mode = getD (getD table kind []) mode 0
-
--- the row of a kind byte
-unfoldable pub rowOf : ℕ → ℕ
-rowOf kind = getD (listed (λ k. k) 0 9) kind 0
 
 -- the mark of an offset in a mode by number: none in mode 3
 unfoldable pub reaching : ℕ → ℕ → List Mark

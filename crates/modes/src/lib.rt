@@ -1,18 +1,18 @@
-// Rule 7, the mode rule: one pass through a leaf's steps marks the modes in which each is reached, a second holds each to the table.
+// Rule 7, the mode rule: one walk through a leaf's steps marks the modes in which each is reached and holds each to the table. A step may
+// lead back to a next alone, so only the nexts are looked at again.
 ghost use mathlib.Core.Path.{_≡_};
-ghost use mathlib.Core.Bool.{_||_};
-ghost use mathlib.Core.List.{List};
+ghost use mathlib.Core.Bool.{_||_, not};
+ghost use mathlib.Core.List.{List, _++_};
 ghost use Prim.Native.Nat.{_+_, _*_, _≤_, _<_};
 ghost use lib.Dec.{T, eqb, ltb};
 ghost use lib.ListN.{length};
-ghost use Rattle.policy.specs.Bytes.{number};
 ghost use Rattle.policy.specs.Lists.{every};
 ghost use Rattle.policy.specs.Records.{rowAt};
-ghost use Rattle.policy.specs.Steps.{stepOf, targets};
-ghost use Rattle.rules.specs.Modes.{Mode, idle, Mark, marked, marks, modeFits, modesFit};
-ghost use Rattle.reading.specs.Code.{codeAt, targetsInside};
-ghost use Rattle.modes.specs.Table.{modeNumber, entryAt, rowOf, reaching, mayStand, ledBy};
-ghost use Rattle.modes.specs.Marks.{markBytes, Agrees, Adds, roomFor, stepped, ledIf};
+ghost use Rattle.policy.specs.Steps.{stepOf, targets, isNext};
+ghost use Rattle.rules.specs.Modes.{Mark, marks, modeFits};
+ghost use Rattle.reading.specs.Code.{codeAt};
+ghost use Rattle.modes.specs.Table.{entryAt, reaching, mayStand, ledBy};
+ghost use Rattle.modes.specs.Marks.{markBytes, Agrees, Kept, Adds, roomFor, onlyIf, MarkedHere, fitsIn, Led, nextsFit};
 use reading::byte;
 
 // The mode rule, a row for each kind of step and a column for each mode: 0 idle, 1 pending, 2 closing. An entry has three digits:
@@ -30,15 +30,6 @@ const TABLE: [[u8; 3]; 9] = [
     [0b1_11_11, 0b1_11_11, 0b1_11_11], // halt
 ];
 
-// The table's row for the step at a place.
-fn kind_at(policy: &[u8], at: usize) -> usize
-    requires { ⌜ at < length (now policy) ⌝ }
-    ensures { λ r. ⌜ (r ≡ rowOf (number (now (policy .entry)) at 1)) × (r < 9) ⌝ }
-{
-    let k = byte(policy, at) as usize;
-    if k < 9 { k } else { 0 }
-}
-
 fn entry(kind: usize, mode: usize) -> u8
     requires { ⌜ (kind < 9) × (mode < 3) ⌝ }
     ensures { λ r. ⌜ r ≡ entryAt kind mode ⌝ }
@@ -46,129 +37,157 @@ fn entry(kind: usize, mode: usize) -> u8
     TABLE[kind][mode]
 }
 
-fn stands(kind: usize, mode: usize) -> bool
-    requires { ⌜ (kind < 9) × (mode < 3) ⌝ }
-    ensures { λ r. ⌜ r ≡ mayStand (entryAt kind mode) ⌝ }
-{
-    entry(kind, mode) / 16 == 1
+// ---- the marks: a byte for each of 64 offsets in each mode, 1 where the offset is marked and else 0
+
+// The marks of one offset.
+struct Here {
+    idle: u8,
+    pending: u8,
+    closing: u8,
 }
 
-// ---- the marks: a byte for each of 64 offsets in each mode
-
-fn marked(seen: &[u8], mode: usize, o: usize) -> bool
-    requires { ⌜ (length (now seen) ≡ markBytes) × (mode < 3) × (o < 64) ⌝ }
-    ensures { λ r. ⌜ ((m : Mode) (ks : List Mark) → modeNumber m ≡ mode → Agrees (now (seen .entry)) ks → r ≡ marked m o ks) ⌝ }
+fn marks_at(seen: &[u8], o: usize) -> Here
+    requires { ⌜ (length (now seen) ≡ markBytes) × (o < 64) ⌝ }
+    ensures { λ r. ⌜ ((ks : List Mark) → Agrees (now (seen .entry)) ks → MarkedHere (r .idle) (r .pending) (r .closing) o ks) ⌝ }
 {
-    seen[64 * mode + o] == 1
+    Here {
+        idle: seen[o],
+        pending: seen[64 + o],
+        closing: seen[128 + o],
+    }
 }
 
-fn mark(seen: &mut [u8], mode: usize, o: usize)
+pub fn mark(seen: &mut [u8], mode: usize, o: usize)
     requires { ⌜ (length (now seen) ≡ markBytes) × (mode < 3) × (o < 64) ⌝ }
     ensures { λ _. ⌜ Adds (now (seen .entry)) (now (seen .exit)) (reaching mode o) ⌝ }
 {
     seen[64 * mode + o] = 1;
 }
 
-// ---- the first pass: the marks
-
-// Marks a target of a step; in mode 3 the step does not have it.
-fn reach(seen: &mut [u8], mode: usize, o: usize)
-    requires { ⌜ (length (now seen) ≡ markBytes) × T (roomFor (reaching mode o)) ⌝ }
-    ensures { λ _. ⌜ Adds (now (seen .entry)) (now (seen .exit)) (reaching mode o) ⌝ }
+// Marks a target of a step if `here` is 1; in mode 3 the step does not have it. A byte that is stored either way costs no branch.
+fn reach(seen: &mut [u8], mode: usize, o: usize, here: u8)
+    requires { ⌜ (length (now seen) ≡ markBytes) × T (roomFor (reaching mode o)) × (here ≤ 1) ⌝ }
+    ensures { λ _. ⌜ Adds (now (seen .entry)) (now (seen .exit)) (onlyIf (eqb here 1) (reaching mode o)) ⌝ }
 {
     if mode < 3 {
-        mark(seen, mode, o);
+        let at = 64 * mode + o;
+        seen[at] = seen[at] | here;
     }
 }
 
-// Marks what a step leads to in a mode, if it is reached in that mode.
-fn lead_if(reached: bool, kind: usize, mode: usize, first: usize, second: usize, seen: &mut [u8])
-    requires { ⌜ (length (now seen) ≡ markBytes) × (kind < 9) × (mode < 3) × T (roomFor (ledBy (entryAt kind mode) first second)) ⌝ }
-    ensures { λ _. ⌜ Adds (now (seen .entry)) (now (seen .exit)) (ledIf reached (entryAt kind mode) first second) ⌝ }
+// ---- a step
+
+// Marks what a step leads to in a mode whose entry is e, if it is reached in that mode.
+fn lead_in(e: u8, here: u8, first: usize, second: usize, seen: &mut [u8])
+    requires { ⌜ (length (now seen) ≡ markBytes) × T (roomFor (ledBy e first second)) × (here ≤ 1) ⌝ }
+    ensures { λ _. ⌜ Adds (now (seen .entry)) (now (seen .exit)) (onlyIf (eqb here 1) (ledBy e first second)) ⌝ }
 {
-    if reached {
-        let e = entry(kind, mode);
-        reach(seen, (e % 4) as usize, second);
-        reach(seen, (e / 4 % 4) as usize, first);
-    }
+    reach(seen, (e % 4) as usize, second, here);
+    reach(seen, (e / 4 % 4) as usize, first, here);
 }
 
-// Every next counts as reached idle.
-fn reached_idle(seen: &[u8], o: usize, kind: usize) -> bool
-    requires { ⌜ (length (now seen) ≡ markBytes) × (o < 64) ⌝ }
-    ensures { λ r. ⌜ ((ks : List Mark) → Agrees (now (seen .entry)) ks → r ≡ (marked idle o ks || eqb kind 1)) ⌝ }
+fn stands(e: u8) -> bool
+    ensures { λ r. ⌜ r ≡ mayStand e ⌝ }
 {
-    marked(seen, 0, o) | (kind == 1)
+    e / 16 == 1
 }
 
-// The modes are all read before one is marked, since a step may lead to itself.
-fn lead(policy: &[u8], at: usize, o: usize, seen: &mut [u8])
-    requires { ⌜ (at + 12 ≤ length (now policy)) × (o < 64) × (length (now seen) ≡ markBytes) ⌝ }
+// A step as the walk meets it: the marks of its offset, and its two target fields.
+struct Met {
+    here: Here,
+    first: usize,
+    second: usize,
+}
+
+// The entries are those of the step's kind in each mode. Gives whether it is reached in one mode, and may stand there.
+fn lead_by(idle: u8, pending: u8, closing: u8, met: Met, seen: &mut [u8]) -> bool
+    requires { ⌜ (length (now seen) ≡ markBytes) × (met .here .idle ≤ 1) × (met .here .pending ≤ 1) × (met .here .closing ≤ 1) ⌝ }
+    requires { ⌜ T (roomFor (ledBy idle (met .first) (met .second))) × T (roomFor (ledBy pending (met .first) (met .second)))
+        × T (roomFor (ledBy closing (met .first) (met .second))) ⌝ }
+    ensures { λ r. ⌜ r ≡ fitsIn idle pending closing (met .here .idle) (met .here .pending) (met .here .closing) ⌝ }
+    ensures { λ r. ⌜ Adds (now (seen .entry)) (now (seen .exit)) (onlyIf (eqb (met .here .idle) 1) (ledBy idle (met .first) (met .second))
+        ++ (onlyIf (eqb (met .here .pending) 1) (ledBy pending (met .first) (met .second))
+        ++ onlyIf (eqb (met .here .closing) 1) (ledBy closing (met .first) (met .second)))) ⌝ }
+{
+    let here = met.here;
+    lead_in(closing, here.closing, met.first, met.second, seen);
+    lead_in(pending, here.pending, met.first, met.second, seen);
+    lead_in(idle, here.idle, met.first, met.second, seen);
+    let modes = here.idle as usize + here.pending as usize + here.closing as usize;
+    (modes == 1)
+        & ((here.idle == 0) | stands(idle))
+        & ((here.pending == 0) | stands(pending))
+        & ((here.closing == 0) | stands(closing))
+}
+
+// Marks what the step leads to, and holds it to the table by the marks before it. Every next counts as reached idle, and is not held to
+// anything here. The entries are asked for by their numbers, so that a compiler knows what they say.
+pub fn lead(policy: &[u8], at: usize, o: usize, seen: &mut [u8]) -> bool
+    requires { ⌜ (at + 12 ≤ length (now policy)) × (o < 64) × Kept (now seen) ⌝ }
     requires { ⌜ T (every (λ t. ltb t 64) (targets (stepOf (rowAt (now policy) at)))) ⌝ }
-    ensures { λ _. ⌜ ((ks : List Mark) → Agrees (now (seen .entry)) ks
-        → Agrees (now (seen .exit)) (stepped o (stepOf (rowAt (now (policy .entry)) at)) ks)) ⌝ }
+    ensures { λ r. ⌜ ((ks : List Mark) → Agrees (now (seen .entry)) ks
+        → Led o (stepOf (rowAt (now (policy .entry)) at)) ks r (now (seen .exit))) ⌝ }
 {
-    let kind = kind_at(policy, at);
+    let kind = byte(policy, at);
     let first = byte(policy, at + 2) as usize;
     let second = byte(policy, at + 3) as usize;
-    let idle = reached_idle(seen, o, kind);
-    let pending = marked(seen, 1, o);
-    let closing = marked(seen, 2, o);
-    lead_if(closing, kind, 2, first, second, seen);
-    lead_if(pending, kind, 1, first, second, seen);
-    lead_if(idle, kind, 0, first, second, seen);
-}
-
-fn walk(policy: &[u8], at: usize, count: usize, seen: &mut [u8])
-    requires { ⌜ (at + 12 * count ≤ length (now policy)) × (count ≤ 64) × T (targetsInside (codeAt (now policy) at count)) ⌝ }
-    requires { ⌜ Agrees (now seen) (reaching 0 0) ⌝ }
-    ensures { λ _. ⌜ Agrees (now (seen .exit)) (marks (codeAt (now (policy .entry)) at count)) ⌝ }
-{
-    let mut o = 0;
-    while o < count {
-        lead(policy, at + 12 * o, o, seen);
-        o += 1;
+    let here = marks_at(seen, o);
+    let met = Met {
+        here,
+        first,
+        second,
+    };
+    match kind {
+        1 => {
+            let here = Here {
+                idle: 1,
+                pending: here.pending,
+                closing: here.closing,
+            };
+            let next = Met {
+                here,
+                first,
+                second,
+            };
+            lead_by(entry(1, 0), entry(1, 1), entry(1, 2), next, seen);
+            true
+        }
+        2 => lead_by(entry(2, 0), entry(2, 1), entry(2, 2), met, seen),
+        3 => lead_by(entry(3, 0), entry(3, 1), entry(3, 2), met, seen),
+        4 => lead_by(entry(4, 0), entry(4, 1), entry(4, 2), met, seen),
+        5 => lead_by(entry(5, 0), entry(5, 1), entry(5, 2), met, seen),
+        6 => lead_by(entry(6, 0), entry(6, 1), entry(6, 2), met, seen),
+        _ => lead_by(entry(8, 0), entry(8, 1), entry(8, 2), met, seen),
     }
 }
 
-// ---- the second pass: the table
+// ---- the nexts
 
-fn mode_fits(policy: &[u8], at: usize, o: usize, seen: &[u8]) -> bool
+// A next is reached in no other mode than idle.
+fn next_fits(policy: &[u8], at: usize, o: usize, seen: &[u8]) -> bool
     requires { ⌜ (at < length (now policy)) × (o < 64) × (length (now seen) ≡ markBytes) ⌝ }
-    ensures { λ r. ⌜ ((ks : List Mark) → Agrees (now (seen .entry)) ks → r ≡ modeFits ks o (stepOf (rowAt (now (policy .entry)) at))) ⌝ }
+    ensures { λ r. ⌜ ((ks : List Mark) → Agrees (now (seen .entry)) ks
+        → r ≡ (not (isNext (stepOf (rowAt (now (policy .entry)) at))) || modeFits ks o (stepOf (rowAt (now (policy .entry)) at)))) ⌝ }
 {
-    let kind = kind_at(policy, at);
-    let idle = reached_idle(seen, o, kind);
-    let pending = marked(seen, 1, o);
-    let closing = marked(seen, 2, o);
-    let modes = idle as u8 + pending as u8 + closing as u8;
-    (modes == 1)
-        & (!idle | stands(kind, 0))
-        & (!pending | stands(kind, 1))
-        & (!closing | stands(kind, 2))
+    if byte(policy, at) != 1 {
+        return true;
+    }
+    let here = marks_at(seen, o);
+    (here.pending == 0) & (here.closing == 0)
 }
 
-fn all_fit(policy: &[u8], at: usize, count: usize, seen: &[u8]) -> bool
+// By all marks of the leaf.
+pub fn nexts_fit(policy: &[u8], at: usize, count: usize, seen: &[u8]) -> bool
     requires { ⌜ (at + 12 * count ≤ length (now policy)) × (count ≤ 64) ⌝ }
     requires { ⌜ Agrees (now seen) (marks (codeAt (now policy) at count)) ⌝ }
-    ensures { λ r. ⌜ r ≡ modesFit (codeAt (now (policy .entry)) at count) ⌝ }
+    ensures { λ r. ⌜ r ≡ nextsFit (codeAt (now (policy .entry)) at count) ⌝ }
 {
     let mut o = 0;
     while o < count {
-        if !mode_fits(policy, at + 12 * o, o, seen) {
+        if !next_fits(policy, at + 12 * o, o, seen) {
             return false;
         }
         o += 1;
     }
     true
-}
-
-pub fn modes_fit(policy: &[u8], at: usize, count: usize) -> bool
-    requires { ⌜ (at + 12 * count ≤ length (now policy)) × (count ≤ 64) × T (targetsInside (codeAt (now policy) at count)) ⌝ }
-    ensures { λ r. ⌜ r ≡ modesFit (codeAt (now (policy .entry)) at count) ⌝ }
-{
-    let mut seen = [0; 192];
-    mark(&mut seen, 0, 0);
-    walk(policy, at, count, &mut seen);
-    all_fit(policy, at, count, &seen)
 }

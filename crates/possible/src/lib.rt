@@ -1,27 +1,26 @@
-// What is possible at each offset of a leaf, and with it rule 8's test of the branches and the leaf's effect set for rule 9. The sets
-// lie in 64 words, one for each offset that a leaf can have.
+// What is possible at a step of a leaf, and what the step makes of it: what it passes on, rule 8's test of its branches, and what it adds
+// to the leaf's effect set for rule 9. Each reads the kind byte and what its kind uses.
 ghost use mathlib.Core.Path.{_≡_};
-ghost use Prim.Native.Nat.{_+_, _*_, _≤_, _<_};
+ghost use mathlib.Core.List.{[], _∷_};
+ghost use Prim.Native.Nat.{_+_, _≤_, _<_};
 ghost use lib.Dec.{T, ltb};
-ghost use lib.ListN.{length, getD, take, replicate};
-ghost use Rattle.actions.specs.Sets.{EMPTY};
+ghost use lib.ListN.{length};
 ghost use Rattle.policy.specs.Lists.{every};
-ghost use Rattle.policy.specs.Steps.{targets};
-ghost use Rattle.reading.specs.Kinds.{stepMeant};
-ghost use Rattle.rules.specs.Possible.{joinAt, passOn, possible, branchesTaken, allTaken};
-ghost use Rattle.rules.specs.Interference.{stepEffects, leafEffects};
-ghost use Rattle.reading.specs.Code.{codeAt, targetsInside};
+ghost use Rattle.policy.specs.Records.{stepSize, rowAt};
+ghost use Rattle.policy.specs.Steps.{stepOf, targets};
+ghost use Rattle.rules.specs.Possible.{joinAt, passOn, branchesTaken};
+ghost use Rattle.rules.specs.Interference.{stepEffects};
 use actions::ActionSet;
-use reading::Operand;
-use reading::Step;
-use reading::step_at;
+use reading::byte;
+use reading::word64;
 
-fn clear(sets: &mut [u64], count: usize)
-    requires { ⌜ count ≤ length (now sets) ⌝ }
-    ensures { λ r. ⌜ take count (now (sets .exit)) ≡ replicate count EMPTY ⌝ }
+// The set that an acase asks for.
+fn asked(policy: &[u8], at: usize) -> ActionSet
+    requires { ⌜ at + stepSize ≤ length (now policy) ⌝ }
+    ensures { λ r. ⌜ r .bits ≡ rowAt (now (policy .entry)) at .operand ⌝ }
 {
-    for o in 0..count {
-        sets[o] = 0;
+    ActionSet {
+        bits: word64(policy, at + 4),
     }
 }
 
@@ -36,115 +35,52 @@ fn join_at(sets: &mut [u64], target: u8, more: ActionSet)
     sets[o] = joined.bits;
 }
 
-// What the step at o adds to the sets of its targets.
-fn pass_on(step: Step, o: usize, set: ActionSet, sets: &mut [u64])
-    requires { ⌜ o < length (now sets) ⌝ }
-    requires { ⌜ T (every (λ t. ltb t (length (now sets))) (targets (stepMeant step))) ⌝ }
-    ensures { λ r. ⌜ now (sets .exit) ≡ passOn (set .bits) (stepMeant step) (getD (now (sets .entry)) o EMPTY) (now (sets .entry)) ⌝ }
+// What the step at a place, whose possible set is p, adds to the sets of its targets.
+pub fn pass_on(policy: &[u8], at: usize, p: ActionSet, set: ActionSet, sets: &mut [u64])
+    requires { ⌜ at + stepSize ≤ length (now policy) ⌝ }
+    requires { ⌜ T (every (λ t. ltb t (length (now sets))) (targets (stepOf (rowAt (now policy) at)))) ⌝ }
+    ensures { λ r. ⌜ now (sets .exit) ≡ passOn (set .bits) (stepOf (rowAt (now (policy .entry)) at)) (p .bits) (now (sets .entry)) ⌝ }
 {
-    let p = ActionSet { bits: sets[o] };
-    match step {
-        Step::Next(take, _) => join_at(sets, take, set),
-        Step::Ins(x, to) => match x {
-            Operand::Action(_) => join_at(sets, to, p),
-            _ => {}
-        },
-        Step::Acase(x, yes, no) => match x {
-            Operand::Set(s) => {
-                join_at(sets, yes, p.common(s));
-                join_at(sets, no, p.difference(s));
-            }
-            _ => {}
-        },
-        Step::Spend(x, yes, no) => match x {
-            Operand::Amount(_) => {
-                join_at(sets, yes, p);
-                join_at(sets, no, p);
-            }
-            _ => {}
-        },
+    let kind = byte(policy, at);
+    let first = byte(policy, at + 2);
+    let second = byte(policy, at + 3);
+    match kind {
+        1 => join_at(sets, first, set),
+        4 => join_at(sets, first, p),
+        5 => {
+            let s = asked(policy, at);
+            join_at(sets, first, p.common(s));
+            join_at(sets, second, p.difference(s));
+        }
+        6 => {
+            join_at(sets, first, p);
+            join_at(sets, second, p);
+        }
         _ => {}
     }
 }
 
-pub fn possible(policy: &[u8], at: usize, count: usize, set: ActionSet, sets: &mut [u64])
-    requires { ⌜ (at + 12 * count ≤ length (now policy)) × (count ≤ 64) × (length (now sets) ≡ 64) ⌝ }
-    requires { ⌜ T (targetsInside (codeAt (now policy) at count)) ⌝ }
-    ensures { λ r. ⌜ take count (now (sets .exit)) ≡ possible (set .bits) (codeAt (now (policy .entry)) at count) ⌝ }
+// Rule 8: an acase whose possible set is p has no branch that no possible action takes.
+pub fn branches_taken(policy: &[u8], at: usize, p: ActionSet) -> bool
+    requires { ⌜ at + stepSize ≤ length (now policy) ⌝ }
+    ensures { λ r. ⌜ r ≡ branchesTaken (p .bits ∷ []) 0 (stepOf (rowAt (now (policy .entry)) at)) ⌝ }
 {
-    clear(sets, count);
-    for o in 0..count {
-        let step = step_at(policy, at + 12 * o);
-        pass_on(step, o, set, sets);
+    if byte(policy, at) != 5 {
+        return true;
     }
+    let s = asked(policy, at);
+    !p.common(s).is_empty() & !p.difference(s).is_empty()
 }
-
-// ---- rule 8
-
-// An acase at o has no branch that no possible action takes.
-fn branches_taken(step: Step, sets: &[u64], o: usize) -> bool
-    requires { ⌜ o < length (now sets) ⌝ }
-    ensures { λ r. ⌜ r ≡ branchesTaken (now (sets .entry)) o (stepMeant step) ⌝ }
-{
-    match step {
-        Step::Acase(x, _, _) => match x {
-            Operand::Set(s) => {
-                let p = ActionSet { bits: sets[o] };
-                !p.common(s).is_empty() && !p.difference(s).is_empty()
-            }
-            _ => true,
-        },
-        _ => true,
-    }
-}
-
-pub fn all_taken(policy: &[u8], at: usize, count: usize, set: ActionSet) -> bool
-    requires { ⌜ (at + 12 * count ≤ length (now policy)) × (count ≤ 64) ⌝ }
-    requires { ⌜ T (targetsInside (codeAt (now policy) at count)) ⌝ }
-    ensures { λ r. ⌜ r ≡ allTaken (set .bits) (codeAt (now (policy .entry)) at count) ⌝ }
-{
-    let mut sets = [0u64; 64];
-    possible(policy, at, count, set, &mut sets);
-    for o in 0..count {
-        let step = step_at(policy, at + 12 * o);
-        if !branches_taken(step, &sets, o) {
-            return false;
-        }
-    }
-    true
-}
-
-// ---- effect sets
 
 // What a step whose possible set is p adds to the effect set of its leaf.
-fn step_effects(step: Step, p: ActionSet) -> ActionSet
-    ensures { λ r. ⌜ r .bits ≡ stepEffects (p .bits) (stepMeant step) ⌝ }
+pub fn step_effects(policy: &[u8], at: usize, p: ActionSet) -> ActionSet
+    requires { ⌜ at + stepSize ≤ length (now policy) ⌝ }
+    ensures { λ r. ⌜ r .bits ≡ stepEffects (p .bits) (stepOf (rowAt (now (policy .entry)) at)) ⌝ }
 {
-    match step {
-        Step::Sup(_) => p,
-        Step::Ins(x, _) => match x {
-            Operand::Action(b) => ActionSet::single(b),
-            _ => ActionSet::EMPTY,
-        },
+    let kind = byte(policy, at);
+    match kind {
+        3 => p,
+        4 => ActionSet::single(byte(policy, at + 1)),
         _ => ActionSet::EMPTY,
     }
-}
-
-// It goes from the last step to the first, as the definition joins the steps' effects.
-pub fn leaf_effects(policy: &[u8], at: usize, count: usize, set: ActionSet) -> ActionSet
-    requires { ⌜ (at + 12 * count ≤ length (now policy)) × (count ≤ 64) ⌝ }
-    requires { ⌜ T (targetsInside (codeAt (now policy) at count)) ⌝ }
-    ensures { λ r. ⌜ r .bits ≡ leafEffects (set .bits) (codeAt (now (policy .entry)) at count) ⌝ }
-{
-    let mut sets = [0u64; 64];
-    possible(policy, at, count, set, &mut sets);
-    let mut effects = ActionSet::EMPTY;
-    let mut o = count;
-    while o > 0 {
-        o -= 1;
-        let step = step_at(policy, at + 12 * o);
-        let p = ActionSet { bits: sets[o] };
-        effects = step_effects(step, p).union(effects);
-    }
-    effects
 }

@@ -1,2 +1,3 @@
-mod Rows
+pub mod Rows
 pub mod CodeLaws
+mod Words

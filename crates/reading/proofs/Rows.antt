@@ -1,9 +1,9 @@
 -- A record's kind: what it is where the kind byte is known, or known to be none of the kinds. Assumes nothing.
 use Prim.Native.Nat.{ℕ, zero, suc, _+_}
-use mathlib.Core.Path.{_≡_, refl, sym, ap}
+use mathlib.Core.Path.{_≡_, refl, ap}
 use Rattle.policy.specs.Bytes.{Bytes, number}
 use Rattle.policy.specs.Records.{Row, rowAt}
-use Rattle.policy.specs.Steps.{Step, halt, stepOf}
+use Rattle.policy.specs.Steps.{Step, next, ok, sup, ins, acase, spend, end, halt, stepOf}
 use Rattle.policy.specs.Tree.{noNode, nodeKind}
 
 pub none-of-seven : (k : ℕ) → (k ≡ 1 → ⊥) → (k ≡ 2 → ⊥) → (k ≡ 3 → ⊥) → (k ≡ 4 → ⊥) → (k ≡ 5 → ⊥) → (k ≡ 6 → ⊥) → (k ≡ 7 → ⊥) → nodeKind k ≡ noNode
@@ -49,3 +49,30 @@ steps-else r = go (r .kind)
     go (suc (suc (suc (suc (suc (suc (suc zero))))))) a b c d e f g = absurd (g refl)
     go (suc (suc (suc (suc (suc (suc (suc (suc zero)))))))) a b c d e f g = refl
     go (suc (suc (suc (suc (suc (suc (suc (suc (suc k))))))))) a b c d e f g = refl
+
+-- what holds of each kind of step, and of a halt whatever its kind byte is, holds of the step that is read
+pub by-kind : (P : ℕ → Step → Type 0) (r : Row) → P 1 (next (r .first) (r .second)) → P 2 (ok (r .first)) → P 3 (sup (r .first))
+    → P 4 (ins (r .action) (r .first)) → P 5 (acase (r .operand) (r .first) (r .second)) → P 6 (spend (r .operand) (r .first) (r .second)) → P 7 end
+    → ((k : ℕ) → P k halt) → P (r .kind) (stepOf r)
+unfolding stepOf
+by-kind P r a b c d e f g h = go (r .kind)
+  where
+    go : (k : ℕ) → P k (stepOf (record { kind = k; action = r .action; first = r .first; second = r .second; operand = r .operand }))
+    go zero = h 0
+    go (suc zero) = a
+    go (suc (suc zero)) = b
+    go (suc (suc (suc zero))) = c
+    go (suc (suc (suc (suc zero)))) = d
+    go (suc (suc (suc (suc (suc zero))))) = e
+    go (suc (suc (suc (suc (suc (suc zero)))))) = f
+    go (suc (suc (suc (suc (suc (suc (suc zero))))))) = g
+    go (suc (suc (suc (suc (suc (suc (suc (suc zero)))))))) = h 8
+    go (suc (suc (suc (suc (suc (suc (suc (suc (suc k))))))))) = h (suc (suc (suc (suc (suc (suc (suc (suc (suc k)))))))))
+
+-- a step of no kind that has targets is an end or a halt
+pub stops-else : {A : Type 0} (f : Step → A) (r : Row) → f end ≡ f halt → (r .kind ≡ 1 → ⊥) → (r .kind ≡ 2 → ⊥) → (r .kind ≡ 3 → ⊥)
+    → (r .kind ≡ 4 → ⊥) → (r .kind ≡ 5 → ⊥) → (r .kind ≡ 6 → ⊥) → f (stepOf r) ≡ f halt
+stops-else f r same =
+    by-kind (λ k s. (k ≡ 1 → ⊥) → (k ≡ 2 → ⊥) → (k ≡ 3 → ⊥) → (k ≡ 4 → ⊥) → (k ≡ 5 → ⊥) → (k ≡ 6 → ⊥) → f s ≡ f halt) r
+    (λ a b c d e g. absurd (a refl)) (λ a b c d e g. absurd (b refl)) (λ a b c d e g. absurd (c refl)) (λ a b c d e g. absurd (d refl))
+    (λ a b c d e g. absurd (e refl)) (λ a b c d e g. absurd (g refl)) (λ a b c d e g. same) (λ k a b c d e g. refl)

@@ -1,15 +1,17 @@
 -- Rules 1 to 4 by the values that the code has read: a record's fields one by one, each with the equation that it was read by.
 -- Assumes nothing.
 use Prim.Native.Nat.{ℕ, zero, suc, _+_, _*_, _≤_, _<_}
-use borrow.Author.Tests.{lt-ltb, le-ltb}
-use mathlib.Core.Path.{_≡_, refl, sym, ap, ap₂}
+use native.Mathlib.Omega.{arith}
+use borrow.Author.Tests.{lt-ltb, le-ltb, ne-eqb, le-leb, lt-leb}
+use mathlib.Core.Path.{_≡_, refl, sym, ap, ap₂, _∙_}
 use mathlib.Core.Bool.{Bool, true, false, _&&_, _||_, not}
 use lib.Dec.{eqb, leb}
 use lib.ListN.{length}
 use Rattle.policy.specs.Bytes.{Bytes, number}
 use Rattle.policy.specs.Records.{Node, Row, lengthField, nodeCount, stepCount, rowAt, nodePlace, rowPlace}
 use Rattle.policy.specs.Tree.{NodeKind, nodeKind}
-use Rattle.rules.specs.Layout.{broken1, broken3, nodeFits, rowFits}
+use Rattle.rules.specs.Layout.{broken1, broken3, nodeFits, noOperand, rowFits}
+use Rattle.policy.proofs.NumberLaws.{number-join}
 
 pub front-short : (file : Bytes) → length file < 6 → true ≡ broken1 file
 unfolding broken1
@@ -56,3 +58,32 @@ no-row (suc (suc (suc (suc (suc (suc zero)))))) _ _ _ _ p q r s t u v w = absurd
 no-row (suc (suc (suc (suc (suc (suc (suc zero))))))) _ _ _ _ p q r s t u v w = absurd (v refl)
 no-row (suc (suc (suc (suc (suc (suc (suc (suc zero)))))))) _ _ _ _ p q r s t u v w = absurd (w refl)
 no-row (suc (suc (suc (suc (suc (suc (suc (suc (suc k))))))))) _ _ _ _ p q r s t u v w = refl
+
+-- ---- an operand that is read in two halves
+
+not-zero : (n : ℕ) → 0 < n → eqb n 0 ≡ false
+not-zero n h = ne-eqb n 0 (λ e. omega arith)
+
+halves : (high low : ℕ) → (eqb high 0 && eqb low 0) ≡ eqb (high * 4294967296 + low) 0
+halves zero zero = refl
+halves zero (suc low) = not-zero (suc low) (omega arith) ∙ sym (not-zero (0 * 4294967296 + suc low) (omega arith))
+halves (suc high) low =
+    ap (λ (b : Bool). b && eqb low 0) (not-zero (suc high) (omega arith)) ∙ sym (not-zero (suc high * 4294967296 + low) (omega arith))
+
+high-alone : (high low : ℕ) → low < 4294967296 → eqb high 0 ≡ leb (high * 4294967296 + low) 4294967295
+high-alone zero low h = sym (le-leb (0 * 4294967296 + low) 4294967295 (omega arith))
+high-alone (suc high) low h = not-zero (suc high) (omega arith) ∙ sym (lt-leb (suc high * 4294967296 + low) 4294967295 (omega arith))
+
+module _ (file : Bytes) (at high low : ℕ) (e : high ≡ number file (at + 4) 4) (f : low ≡ number file (at + 8) 4) where
+  both : at + 12 ≤ length file → high * 4294967296 + low ≡ rowAt file at .operand
+  unfolding rowAt
+  both h =
+      let z : at + 8 ≡ at + 4 + 4 = omega arith in
+      ap₂ (λ (x y : ℕ). x * 4294967296 + y) e (f ∙ ap (λ (i : ℕ). number file i 4) z) ∙ sym (number-join file (at + 4) 4 4 (omega arith))
+
+  pub no-operand-read : at + 12 ≤ length file → (eqb high 0 && eqb low 0) ≡ noOperand (rowAt file at)
+  unfolding noOperand
+  no-operand-read h = halves high low ∙ ap (λ (x : ℕ). eqb x 0) (both h)
+
+  pub no-high-read : low < 4294967296 → at + 12 ≤ length file → eqb high 0 ≡ leb (rowAt file at .operand) 4_294_967_295
+  no-high-read l h = high-alone high low l ∙ ap (λ (x : ℕ). leb x 4294967295) (both h)

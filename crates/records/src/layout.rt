@@ -6,7 +6,7 @@ ghost use lib.ListN.{length};
 ghost use Rattle.policy.specs.Lists.{listed, every};
 ghost use Rattle.policy.specs.Records.{nodeSize, stepSize, mostNodes, nodeAt, rowAt, nodePlace};
 ghost use Rattle.policy.specs.Tree.{nodeKind};
-ghost use Rattle.rules.specs.Layout.{broken1, broken2, broken3, broken4, nodeFits, rowFits};
+ghost use Rattle.rules.specs.Layout.{broken1, broken2, broken3, broken4, nodeFits, noAction, noFirst, noSecond, rowFits};
 ghost use Rattle.records.specs.Frame.{Framed};
 use reading::Kind;
 use reading::byte;
@@ -18,7 +18,7 @@ use reading::node_right;
 use reading::node_set;
 use reading::node_start;
 use reading::word16;
-use reading::word64;
+use reading::word32;
 
 pub fn broken1(policy: &[u8]) -> bool
     ensures { λ r. ⌜ r ≡ broken1 (now (policy .entry)) ⌝ }
@@ -65,24 +65,52 @@ fn node_fits(policy: &[u8], at: usize) -> bool
     }
 }
 
+// ---- a step's fields that must be zero, for the step that lies at a place
+
+fn no_action(policy: &[u8], at: usize) -> bool
+    requires { ⌜ at + stepSize ≤ length (now policy) ⌝ }
+    ensures { λ r. ⌜ r ≡ noAction (rowAt (now (policy .entry)) at) ⌝ }
+{
+    byte(policy, at + 1) == 0
+}
+
+fn no_first(policy: &[u8], at: usize) -> bool
+    requires { ⌜ at + stepSize ≤ length (now policy) ⌝ }
+    ensures { λ r. ⌜ r ≡ noFirst (rowAt (now (policy .entry)) at) ⌝ }
+{
+    byte(policy, at + 2) == 0
+}
+
+fn no_second(policy: &[u8], at: usize) -> bool
+    requires { ⌜ at + stepSize ≤ length (now policy) ⌝ }
+    ensures { λ r. ⌜ r ≡ noSecond (rowAt (now (policy .entry)) at) ⌝ }
+{
+    byte(policy, at + 3) == 0
+}
+
+// The operand is read in two halves: all but two kinds ask that both are zero, and a spend asks it of the high one.
 fn row_fits(policy: &[u8], at: usize) -> bool
     requires { ⌜ at + stepSize ≤ length (now policy) ⌝ }
     ensures { λ r. ⌜ r ≡ rowFits (rowAt (now (policy .entry)) at) ⌝ }
 {
     let kind = byte(policy, at);
-    let action = byte(policy, at + 1);
-    let no_first = byte(policy, at + 2) == 0;
-    let no_second = byte(policy, at + 3) == 0;
-    let operand = word64(policy, at + 4);
+    let no_high = word32(policy, at + 4) == 0;
+    let no_low = word32(policy, at + 8) == 0;
     match kind {
-        1 => (action == 0) & (operand == 0),
-        2 => (action == 0) & no_second & (operand == 0),
-        3 => (action == 0) & no_second & (operand == 0),
-        4 => (action <= 63) & no_second & (operand == 0),
-        5 => action == 0,
-        6 => (action == 0) & (operand <= 4_294_967_295),
-        7 => (action == 0) & no_first & no_second & (operand == 0),
-        8 => (action == 0) & no_first & no_second & (operand == 0),
+        1 => no_action(policy, at) & (no_high & no_low),
+        2 => no_action(policy, at) & no_second(policy, at) & (no_high & no_low),
+        3 => no_action(policy, at) & no_second(policy, at) & (no_high & no_low),
+        4 => (byte(policy, at + 1) <= 63) & no_second(policy, at) & (no_high & no_low),
+        5 => no_action(policy, at),
+        6 => no_action(policy, at) & no_high,
+        7 => no_action(policy, at)
+            & no_first(policy, at)
+            & no_second(policy, at)
+            & (no_high & no_low),
+        8 => no_action(policy, at)
+            & no_first(policy, at)
+            & no_second(policy, at)
+            & (no_high & no_low),
         _ => false,
     }
 }

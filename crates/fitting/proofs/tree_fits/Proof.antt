@@ -7,9 +7,9 @@ use lib.Dec.{lit<}
 use lib.ListN.{length, length-set}
 use Rattle.policy.specs.Bytes.{Bytes}
 use Rattle.policy.specs.Records.{nodeSize, nodeCount, nodeAt}
-use Rattle.checking.specs.First.{firstStep}
+use Rattle.surveying.specs.First.{firstStep}
 use Rattle.records.proofs.Frame.{node-place}
-use Rattle.checking.proofs.LeafLaws.{first-over}
+use Rattle.surveying.proofs.LeafLaws.{first-over}
 use Rattle.fitting.proofs.FileLaws.{frame, all-steps, inside, counts, step-back}
 use Rattle.fitting.proofs.TreeLaws.{Known, known-more, root}
 use Rattle.fitting.proofs.tree_fits.Statement.{statement}

@@ -1,114 +1,209 @@
--- `lead` meets its contract: the three modes were read of the same marks, and the entries say what the step leads to in each. Assumes nothing.
-use Prim.Native.Nat.{ℕ}
-use mathlib.Core.Path.{refl}
-use lib.Dec.{T, lit<}
-use borrow.Author.Needs.{needs}
+-- `lead` meets its contract: a row of the table for each kind of step that has targets, and one for the others. Assumes nothing.
+use Prim.Native.Nat.{ℕ, _≤_}
+use native.Mathlib.Omega.{arith}
+use mathlib.Core.Path.{_≡_, refl}
+use lib.Dec.{T, lit<, lit≤}
 use Rattle.policy.specs.Records.{rowAt}
 use Rattle.policy.specs.Steps.{Step, stepOf}
 use Rattle.rules.specs.Modes.{Mode, idle, pending, closing}
-use Rattle.modes.specs.Table.{modeNumber, entryAt, ledBy, Tells}
+use Rattle.modes.specs.Table.{modeNumber, table, entryAt, ledBy, Tells}
 use Rattle.modes.specs.Marks.{roomFor}
-use Rattle.modes.proofs.Table.{tells-at}
-use Rattle.modes.proofs.ModeSteps.{room-step, Found, lead-law}
+use Rattle.modes.proofs.Marks.{here-small}
+use Rattle.modes.proofs.Table.{tells-six, tells-others}
+use Rattle.modes.proofs.ModeSteps.{room-step, found-next, found-other, led-law, next-law}
 use Rattle.modes.proofs.lead.Statement.{statement}
 use Rattle.modes.proofs.lead.Tie as tie
 
-kind-at-requires : tie.Need-kind-at-requires
-kind-at-requires c κs = search needs
-
-add-byte : tie.Need-add-byte
-add-byte c = search needs
-
-byte-requires : tie.Need-byte-requires
-byte-requires c κs = search needs
-
-cast-first : tie.Need-cast-first
-cast-first c = search needs
-
-add-byte-2 : tie.Need-add-byte-2
-add-byte-2 c = search needs
-
-byte-requires-2 : tie.Need-byte-requires-2
-byte-requires-2 c κs = search needs
-
-cast-second : tie.Need-cast-second
-cast-second c = search needs
-
-reached-idle-requires : tie.Need-reached-idle-requires
-reached-idle-requires c κs = search needs
-
-marked-requires : tie.Need-marked-requires
-marked-requires c κs = search needs
-
-marked-requires-2 : tie.Need-marked-requires-2
-marked-requires-2 c κs = search needs
-
--- the step that was read
-module _ (w : tie.After-byte2) where
-  abbrev kind : ℕ
-  kind = w .before .before .kind-at .result
-
+-- what has been read when the kind is looked at
+module _ (w : tie.After-marks-at) where
   abbrev first : ℕ
-  first = w .before .byte .result
+  first = w .before .before .before .byte2 .result
 
   abbrev second : ℕ
-  second = w .byte2 .result
+  second = w .before .before .byte3 .result
 
   abbrev step : Step
-  step = let a = w .before .before .before .before .before .args in stepOf (rowAt (a .policy .now) (a .at))
+  step = let a = w .before .before .before .before .before .before .before .args in stepOf (rowAt (a .policy .now) (a .at))
 
-  tells : (m : Mode) → Tells kind first second step m
-  tells = tells-at _ _ _ _ _ (w .before .before .kind-at .ensures .0) (w .before .byte .ensures) (w .byte2 .ensures)
+  tells : (k : ℕ) → w .before .before .before .before .byte .result ≡ k → 1 ≤ k → k ≤ 6 → (m : Mode) → Tells k first second step m
+  tells = tells-six _ _ _ _ _ (w .before .before .before .before .byte .ensures) (w .before .before .before .byte2 .ensures) (w .before .before .byte3 .ensures)
 
-  room : (m : Mode) → T (roomFor (ledBy (entryAt kind (modeNumber m)) first second))
-  room m = room-step step m kind first second (tells m) (w .before .before .before .before .before .pre .1)
+  small : (w .marks-at .result .idle ≤ 1) × (w .marks-at .result .pending ≤ 1) × (w .marks-at .result .closing ≤ 1)
+  small = let k = w .before .before .before .before .before .before .before .pre .0 .2 in here-small _ _ _ _ _ (w .marks-at .ensures (k .ks) (k .agrees))
 
-lead-if-requires : tie.Need-lead-if-requires
+  room : (k : ℕ) → ((m : Mode) → Tells k first second step m) → (m : Mode) (e : ℕ) → e ≡ entryAt k (modeNumber m) → T (roomFor (ledBy e first second))
+  room k t m e q = room-step step m k first second e (t m) (w .before .before .before .before .before .before .before .pre .1) q
+
+-- a kind that stands in no arm
+others : (c : tie.At-match-rest) (m : Mode) → Tells 8 (first (c .before)) (second (c .before)) (step (c .before)) m
+others c =
+    let w = c .before in let r = c .match .rest in
+    tells-others _ _ _ _ _ (w .before .before .before .before .byte .ensures) (w .before .before .before .byte2 .ensures) (w .before .before .byte3 .ensures)
+    (r .0 .0 .0 .0 .0 .1) (r .0 .0 .0 .0 .1) (r .0 .0 .0 .1) (r .0 .0 .1) (r .0 .1) (r .1)
+
+lead-by-requires : tie.Need-lead-by-requires
 unfolding modeNumber
-lead-if-requires c κs = (search needs, search needs, lit< tt, room (c .before .before .before .before .before .before .before) closing)
+lead-by-requires c κs =
+    let w = c .before .before .before .before .before in
+    let r = room w 1 (tells w 1 (c .before .before .before .before .match .keys1) (lit≤ tt) (lit≤ tt)) in (
+      (w .before .before .before .before .before .before .before .pre .0 .2 .agrees .size, lit≤ tt, small w .1, small w .2),
+      (r idle _ (c .before .before .before .entry .ensures), r pending _ (c .before .before .entry2 .ensures), r closing _ (c .before .entry3 .ensures)),
+    )
 
-lead-if-requires-2 : tie.Need-lead-if-requires-2
+lead-by-requires-2 : tie.Need-lead-by-requires-2
 unfolding modeNumber
-lead-if-requires-2 c κs = (search needs, search needs, lit< tt, room (c .before .before .before .before .before .before .before .before .before .before .before) pending)
+lead-by-requires-2 c κs =
+    let w = c .before .before .before .before .before in
+    let r = room w 2 (tells w 2 (c .before .before .before .before .match .keys2) (lit≤ tt) (lit≤ tt)) in (
+      (w .before .before .before .before .before .before .before .pre .0 .2 .agrees .size, small w .0, small w .1, small w .2),
+      (r idle _ (c .before .before .before .entry4 .ensures), r pending _ (c .before .before .entry5 .ensures), r closing _ (c .before .entry6 .ensures)),
+    )
 
-lead-if-requires-3 : tie.Need-lead-if-requires-3
+lead-by-requires-3 : tie.Need-lead-by-requires-3
 unfolding modeNumber
-lead-if-requires-3 c κs = (search needs, search needs, lit< tt, room (c .before .before .before .before .before .before .before .before .before .before .before .before .before .before .before) idle)
+lead-by-requires-3 c κs =
+    let w = c .before .before .before .before .before in
+    let r = room w 3 (tells w 3 (c .before .before .before .before .match .keys3) (lit≤ tt) (lit≤ tt)) in (
+      (w .before .before .before .before .before .before .before .pre .0 .2 .agrees .size, small w .0, small w .1, small w .2),
+      (r idle _ (c .before .before .before .entry7 .ensures), r pending _ (c .before .before .entry8 .ensures), r closing _ (c .before .entry9 .ensures)),
+    )
 
-same-length : tie.Need-same-length
-same-length c = search needs
+lead-by-requires-4 : tie.Need-lead-by-requires-4
+unfolding modeNumber
+lead-by-requires-4 c κs =
+    let w = c .before .before .before .before .before in
+    let r = room w 4 (tells w 4 (c .before .before .before .before .match .keys4) (lit≤ tt) (lit≤ tt)) in (
+      (w .before .before .before .before .before .before .before .pre .0 .2 .agrees .size, small w .0, small w .1, small w .2),
+      (r idle _ (c .before .before .before .entry10 .ensures), r pending _ (c .before .before .entry11 .ensures), r closing _ (c .before .entry12 .ensures)),
+    )
+
+lead-by-requires-5 : tie.Need-lead-by-requires-5
+unfolding modeNumber
+lead-by-requires-5 c κs =
+    let w = c .before .before .before .before .before in
+    let r = room w 5 (tells w 5 (c .before .before .before .before .match .keys5) (lit≤ tt) (lit≤ tt)) in (
+      (w .before .before .before .before .before .before .before .pre .0 .2 .agrees .size, small w .0, small w .1, small w .2),
+      (r idle _ (c .before .before .before .entry13 .ensures), r pending _ (c .before .before .entry14 .ensures), r closing _ (c .before .entry15 .ensures)),
+    )
+
+lead-by-requires-6 : tie.Need-lead-by-requires-6
+unfolding modeNumber
+lead-by-requires-6 c κs =
+    let w = c .before .before .before .before .before in
+    let r = room w 6 (tells w 6 (c .before .before .before .before .match .keys6) (lit≤ tt) (lit≤ tt)) in (
+      (w .before .before .before .before .before .before .before .pre .0 .2 .agrees .size, small w .0, small w .1, small w .2),
+      (r idle _ (c .before .before .before .entry16 .ensures), r pending _ (c .before .before .entry17 .ensures), r closing _ (c .before .entry18 .ensures)),
+    )
+
+lead-by-requires-7 : tie.Need-lead-by-requires-7
+unfolding modeNumber
+lead-by-requires-7 c κs =
+    let w = c .before .before .before .before .before in
+    let r = room w 8 (others (c .before .before .before .before)) in (
+      (w .before .before .before .before .before .before .before .pre .0 .2 .agrees .size, small w .0, small w .1, small w .2),
+      (r idle _ (c .before .before .before .entry19 .ensures), r pending _ (c .before .before .entry20 .ensures), r closing _ (c .before .entry21 .ensures)),
+    )
 
 returns : tie.Need-returns
-unfolding modeNumber
 returns c ks g =
-    let last = c .before .before in
-    let middle = last .before .before .before .before in
-    let start = middle .before .before .before .before in
-    let read = start .before .before in
-    let found : Found _ _ ks _ _ _ = record {
-      idly = read .before .before .before .before .reached-idle .ensures ks g;
-      pendingly = read .before .before .marked .ensures pending ks refl g;
-      closingly = read .marked2 .ensures closing ks refl g;
-    } in
-    lead-law _ _ _ _ (tells (read .before .before .before .before .before .before)) _ ks _ _ _ found _ _ _ _
-    (start .lead-if .ensures) (middle .lead-if2 .ensures) (last .lead-if3 .ensures) g
+    let w = c .before .before .before .before .before .before .before .before in
+    let t = tells w 1 (c .before .before .before .before .before .before .before .match .keys1) (lit≤ tt) (lit≤ tt) in
+    next-law _ 1 _ _ t _ ks _ _ _ (found-next _ ks _ _ _ (w .marks-at .ensures ks g)) (c .before .before .before .before .before .before .entry .ensures) (c .before .before .before .before .before .entry2 .ensures) (c .before .before .before .before .entry3 .ensures) _ _
+    (c .before .before .lead-by .ensures .1) g (t idle .next)
+
+returns-2 : tie.Need-returns-2
+returns-2 c ks g =
+    let w = c .before .before .before .before .before .before .before .before in
+    let t = tells w 2 (c .before .before .before .before .before .before .before .match .keys2) (lit≤ tt) (lit≤ tt) in
+    led-law _ 2 _ _ t _ ks _ _ _ (found-other 2 _ ks _ _ _ refl (w .marks-at .ensures ks g)) (c .before .before .before .before .before .before .entry4 .ensures) (c .before .before .before .before .before .entry5 .ensures) (c .before .before .before .before .entry6 .ensures) _ _
+    (c .before .before .lead-by2 .ensures .1) g _ (t idle .next) (c .before .before .lead-by2 .ensures .0)
+
+returns-3 : tie.Need-returns-3
+returns-3 c ks g =
+    let w = c .before .before .before .before .before .before .before .before in
+    let t = tells w 3 (c .before .before .before .before .before .before .before .match .keys3) (lit≤ tt) (lit≤ tt) in
+    led-law _ 3 _ _ t _ ks _ _ _ (found-other 3 _ ks _ _ _ refl (w .marks-at .ensures ks g)) (c .before .before .before .before .before .before .entry7 .ensures) (c .before .before .before .before .before .entry8 .ensures) (c .before .before .before .before .entry9 .ensures) _ _
+    (c .before .before .lead-by3 .ensures .1) g _ (t idle .next) (c .before .before .lead-by3 .ensures .0)
+
+returns-4 : tie.Need-returns-4
+returns-4 c ks g =
+    let w = c .before .before .before .before .before .before .before .before in
+    let t = tells w 4 (c .before .before .before .before .before .before .before .match .keys4) (lit≤ tt) (lit≤ tt) in
+    led-law _ 4 _ _ t _ ks _ _ _ (found-other 4 _ ks _ _ _ refl (w .marks-at .ensures ks g)) (c .before .before .before .before .before .before .entry10 .ensures) (c .before .before .before .before .before .entry11 .ensures) (c .before .before .before .before .entry12 .ensures) _ _
+    (c .before .before .lead-by4 .ensures .1) g _ (t idle .next) (c .before .before .lead-by4 .ensures .0)
+
+returns-5 : tie.Need-returns-5
+returns-5 c ks g =
+    let w = c .before .before .before .before .before .before .before .before in
+    let t = tells w 5 (c .before .before .before .before .before .before .before .match .keys5) (lit≤ tt) (lit≤ tt) in
+    led-law _ 5 _ _ t _ ks _ _ _ (found-other 5 _ ks _ _ _ refl (w .marks-at .ensures ks g)) (c .before .before .before .before .before .before .entry13 .ensures) (c .before .before .before .before .before .entry14 .ensures) (c .before .before .before .before .entry15 .ensures) _ _
+    (c .before .before .lead-by5 .ensures .1) g _ (t idle .next) (c .before .before .lead-by5 .ensures .0)
+
+returns-6 : tie.Need-returns-6
+returns-6 c ks g =
+    let w = c .before .before .before .before .before .before .before .before in
+    let t = tells w 6 (c .before .before .before .before .before .before .before .match .keys6) (lit≤ tt) (lit≤ tt) in
+    led-law _ 6 _ _ t _ ks _ _ _ (found-other 6 _ ks _ _ _ refl (w .marks-at .ensures ks g)) (c .before .before .before .before .before .before .entry16 .ensures) (c .before .before .before .before .before .entry17 .ensures) (c .before .before .before .before .entry18 .ensures) _ _
+    (c .before .before .lead-by6 .ensures .1) g _ (t idle .next) (c .before .before .lead-by6 .ensures .0)
+
+returns-7 : tie.Need-returns-7
+returns-7 c ks g =
+    let w = c .before .before .before .before .before .before .before .before in
+    let t = others (c .before .before .before .before .before .before .before) in
+    led-law _ 8 _ _ t _ ks _ _ _ (found-other 8 _ ks _ _ _ refl (w .marks-at .ensures ks g)) (c .before .before .before .before .before .before .entry19 .ensures) (c .before .before .before .before .before .entry20 .ensures) (c .before .before .before .before .entry21 .ensures) _ _
+    (c .before .before .lead-by7 .ensures .1) g _ (t idle .next) (c .before .before .lead-by7 .ensures .0)
 
 pub lead-spec : {M : Type 1} → statement M
 lead-spec =
     tie.close
     (tie.spec
-    kind-at-requires
-    add-byte
-    byte-requires
-    cast-first
-    add-byte-2
-    byte-requires-2
-    cast-second
-    reached-idle-requires
-    marked-requires
-    marked-requires-2
-    lead-if-requires
-    lead-if-requires-2
-    lead-if-requires-3
-    same-length
-    returns)
+    (λ c κs. omega arith)
+    (λ c. omega arith)
+    (λ c κs. omega arith)
+    (λ c. omega arith)
+    (λ c. omega arith)
+    (λ c κs. omega arith)
+    (λ c. omega arith)
+    (λ c κs. let p = c .before .before .before .before .before .before .pre .0 in (p .2 .agrees .size, p .1))
+    (λ c κs. (lit< tt, lit< tt))
+    (λ c κs. (lit< tt, lit< tt))
+    (λ c κs. (lit< tt, lit< tt))
+    lead-by-requires
+    (λ c κs. (lit< tt, lit< tt))
+    (λ c κs. (lit< tt, lit< tt))
+    (λ c κs. (lit< tt, lit< tt))
+    lead-by-requires-2
+    (λ c κs. (lit< tt, lit< tt))
+    (λ c κs. (lit< tt, lit< tt))
+    (λ c κs. (lit< tt, lit< tt))
+    lead-by-requires-3
+    (λ c κs. (lit< tt, lit< tt))
+    (λ c κs. (lit< tt, lit< tt))
+    (λ c κs. (lit< tt, lit< tt))
+    lead-by-requires-4
+    (λ c κs. (lit< tt, lit< tt))
+    (λ c κs. (lit< tt, lit< tt))
+    (λ c κs. (lit< tt, lit< tt))
+    lead-by-requires-5
+    (λ c κs. (lit< tt, lit< tt))
+    (λ c κs. (lit< tt, lit< tt))
+    (λ c κs. (lit< tt, lit< tt))
+    lead-by-requires-6
+    (λ c κs. (lit< tt, lit< tt))
+    (λ c κs. (lit< tt, lit< tt))
+    (λ c κs. (lit< tt, lit< tt))
+    lead-by-requires-7
+    (λ c. c .before .before .lead-by .kept .1 .1 .1 .1 .0)
+    returns
+    (λ c. c .before .before .lead-by2 .kept .1 .1 .1 .1 .0)
+    returns-2
+    (λ c. c .before .before .lead-by3 .kept .1 .1 .1 .1 .0)
+    returns-3
+    (λ c. c .before .before .lead-by4 .kept .1 .1 .1 .1 .0)
+    returns-4
+    (λ c. c .before .before .lead-by5 .kept .1 .1 .1 .1 .0)
+    returns-5
+    (λ c. c .before .before .lead-by6 .kept .1 .1 .1 .1 .0)
+    returns-6
+    (λ c. c .before .before .lead-by7 .kept .1 .1 .1 .1 .0)
+    returns-7)

@@ -1,0 +1,88 @@
+-- `sets` meets its contract. The loop's invariant: the nodes from i on have their sets. Assumes nothing.
+use Prim.Native.Nat.{_+_, _-_, _≤_, _<_}
+use native.Mathlib.Omega.{arith}
+use mathlib.Core.Path.{_≡_}
+use Rattle.policy.specs.Records.{mostNodes}
+use Rattle.sets.specs.Sets.{RegulatedFrom, EffectsFrom}
+use Rattle.sets.proofs.TreeSets.{filled-as, filled-none, filled-more}
+use Rattle.sets.proofs.sets.Statement.{statement}
+use Rattle.sets.proofs.sets.Tie as tie
+
+abbrev Inv-loop : tie.InvT-loop
+Inv-loop policy n m leaves regulated₀ effects₀ i₀ regulated effects i = (i ≤ n) × RegulatedFrom policy i n regulated × EffectsFrom policy i n effects
+
+abbrev μ-loop : tie.MeasureT-loop
+μ-loop policy n m leaves regulated₀ effects₀ i₀ regulated effects i = i
+
+abbrev start : tie.At-loop Inv-loop μ-loop → tie.Start Inv-loop μ-loop
+start c = c .before .before .before .before .before
+
+loop-holds : tie.Need-loop-holds Inv-loop μ-loop
+loop-holds c = let s = c .before .before .before .before in (omega arith, filled-none _ (s .pre .1 .1 .0), filled-none _ (s .pre .1 .1 .1))
+
+-- what is known in a turn, in which i goes down by 1
+module _ (c : tie.In-loop Inv-loop μ-loop) where
+  below : c .before .loop .i - 1 < start (c .before) .args .n
+  below = omega (arith, c .before .loop .inv .0, c .loop-test .taken)
+
+  -- by its other name, i is the node after that
+  up : c .before .loop .i ≡ c .before .loop .i - 1 + 1
+  up = let h = c .loop-test .taken in omega arith
+
+  room : c .before .loop .i - 1 < mostNodes
+  room = let f = start (c .before) .pre .0 .frame in omega (arith, below)
+
+node-sets-requires : tie.Need-node-sets-requires Inv-loop μ-loop
+node-sets-requires c κs =
+    let b = c .before .before in
+    let l = b .before .loop .inv in
+    let p = start (b .before) .pre in
+    (p .0, (below b, (p .1 .0, (filled-as (up b) (l .1), filled-as (up b) (l .2)))))
+
+loop-again : tie.Need-loop-again Inv-loop μ-loop
+loop-again c =
+    let b = c .before .before .before in
+    let f = start (b .before) .pre .0 .frame in
+    let l = b .before .loop .inv in
+    let e = c .node-sets .ensures in (
+      omega (arith, below b),
+      filled-more (below b) (f .few-nodes) (filled-as (up b) (l .1)) (e .0),
+      filled-more (below b) (f .few-nodes) (filled-as (up b) (l .2)) (e .1),
+    )
+
+slice-write-regulated : tie.Need-slice-write-regulated Inv-loop μ-loop
+slice-write-regulated c = let b = c .before .before .before in omega (arith, room b, b .before .loop .inv .1 .room)
+
+slice-write-effects : tie.Need-slice-write-effects Inv-loop μ-loop
+slice-write-effects c = let b = c .before .before .before in omega (arith, room b, b .before .loop .inv .2 .room)
+
+same-length : tie.Need-same-length Inv-loop μ-loop
+same-length c = omega (arith, c .before .loop .inv .1 .room, start (c .before) .pre .1 .1 .0)
+
+same-length-2 : tie.Need-same-length-2 Inv-loop μ-loop
+same-length-2 c = omega (arith, c .before .loop .inv .2 .room, start (c .before) .pre .1 .1 .1)
+
+returns : tie.Need-returns Inv-loop μ-loop
+returns c =
+    let h = c .loop-test .left in
+    let z : c .before .loop .i ≡ 0 = omega arith in
+    (filled-as z (c .before .loop .inv .1), filled-as z (c .before .loop .inv .2))
+
+pub sets-spec : {M : Type 1} → statement M
+sets-spec =
+    tie.close
+    (tie.spec
+    Inv-loop
+    μ-loop
+    loop-holds
+    (λ c. omega arith)
+    node-sets-requires
+    (λ c. omega (arith, room (c .before .before .before)))
+    slice-write-regulated
+    (λ c. omega (arith, room (c .before .before .before)))
+    slice-write-effects
+    (λ c. omega arith)
+    loop-again
+    same-length
+    same-length-2
+    returns)

@@ -1,0 +1,2 @@
+pub mod LeafLaws
+mod WalkLaws

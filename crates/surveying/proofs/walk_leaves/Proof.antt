@@ -1,0 +1,125 @@
+-- `walk_leaves` meets its contract: the invariant is what is found of the nodes before node i, with what is left. Assumes nothing.
+use Prim.Native.Nat.{ℕ, _+_, _*_, _-_, _≤_}
+use native.Mathlib.Omega.{arith}
+use mathlib.Core.Path.{_≡_, sym, _∙_}
+use mathlib.Core.Bool.{Bool, false}
+use mathlib.Core.List.{List, map}
+use lib.ListN.{length}
+use borrow.Author.Tests.{not-true, not-false}
+use Rattle.policy.specs.Bytes.{Bytes}
+use Rattle.policy.specs.Lists.{summed}
+use Rattle.policy.specs.Records.{nodeSize, nodes}
+use Rattle.policy.specs.Tree.{owned}
+use Rattle.records.specs.Frame.{Framed}
+use Rattle.records.proofs.Frame.{node-place, node-inside}
+use Rattle.rules.specs.Layout.{broken4}
+use Rattle.surveying.proofs.LeafLaws.{first-none, Counted, counted, inside-here}
+use Rattle.surveying.proofs.WalkLaws.{Walking, walk-starts, walk-goes, walk-stops, found-six, found-seven, found-eight, found-none}
+use Rattle.surveying.proofs.walk_leaves.Statement.{statement}
+use Rattle.surveying.proofs.walk_leaves.Tie as tie
+
+-- what is known of the file, and so of the loop's values
+pub record Known (policy : Bytes) (n m i at : ℕ) (effects inserts : List ℕ) (modes taken : Bool) : Type 0 where
+  pub frame : Framed policy n m
+  pub four : broken4 policy ≡ false
+  pub all : summed (map owned (nodes policy)) ≡ m
+  pub so-far : Walking frame four all i at effects inserts modes taken
+
+abbrev Inv-loop : tie.InvT-loop
+Inv-loop policy n m effects₀ inserts₀ modes₀ taken₀ at₀ i₀ effects inserts modes taken at i = Known policy n m i at effects inserts modes taken
+
+abbrev μ-loop : tie.MeasureT-loop
+μ-loop policy n m effects₀ inserts₀ modes₀ taken₀ at₀ i₀ effects inserts modes taken at i = n - i
+
+loop-holds : tie.Need-loop-holds Inv-loop μ-loop
+loop-holds c =
+    let s = c .before .before .before .before in
+    let p = s .pre in
+    record {
+      frame = p .0;
+      four = p .1 .0;
+      all = p .1 .1 .0;
+      so-far = walk-starts _ _ _ _ _ _ (omega (arith, c .node-place .ensures, node-place (s .args .n), first-none (s .args .policy .now))) (p .1 .1 .1 .0) (p .1 .1 .1 .1);
+    }
+
+-- the record and the steps of node i
+module _ (c : tie.After-node-place2 Inv-loop μ-loop) where
+  place-inside : c .node-place2 .result + nodeSize ≤ length (c .before .before .before .before .before .before .before .args .policy .now)
+  place-inside = omega (arith, c .node-place2 .ensures, node-inside (c .before .before .loop .inv .frame) (c .before .before .loop .i) (c .before .loop-test .taken))
+
+module _ (c : tie.After-node-count Inv-loop μ-loop) where
+  counted-here : Counted (c .before .before .before .before .before .before .before .before .args .policy .now) (c .before .before .before .loop .i) (c .node-count .result)
+  counted-here =
+      let k = c .before .before .before .loop .inv in
+      counted (k .frame) (k .four) _ _ _ (c .before .before .loop-test .taken) (c .before .node-place2 .ensures) (c .node-count .ensures)
+
+  steps-inside : c .before .before .before .loop .at + 12 * c .node-count .result ≤ length (c .before .before .before .before .before .before .before .before .args .policy .now)
+  steps-inside =
+      let k = c .before .before .before .loop .inv in
+      inside-here (k .frame) (k .four) (k .all) _ _ _ _ (c .before .before .loop-test .taken) (c .before .node-place2 .ensures) (k .so-far .begins) (c .node-count .ensures)
+
+returns : tie.Need-returns Inv-loop μ-loop
+returns c =
+    let k = c .before .before .before .before .before .before .loop .inv in
+    found-six (k .frame) (k .four) (k .all) _ _ (walk-stops (k .frame) (k .four) (k .all) _ _ _ _ _ _ (k .so-far) _ _ (c .before .before .before .before .before .loop-test .taken)
+    (c .before .before .before .before .node-place2 .ensures) (c .before .before .before .node-count .ensures) _ (c .before .before .walk-node .ensures) (not-true _ (c .if1 .taken)))
+
+loop-again : tie.Need-loop-again Inv-loop μ-loop
+loop-again c =
+    let k = c .before .before .before .before .before .before .before .before .loop .inv in
+    record {
+      frame = k .frame;
+      four = k .four;
+      all = k .all;
+      so-far = walk-goes (k .frame) (k .four) (k .all) _ _ _ _ _ _ (k .so-far) _ _ (c .before .before .before .before .before .before .before .loop-test .taken) (c .before .before .before .before .before .before .node-place2 .ensures)
+          (c .before .before .before .before .before .node-count .ensures) _ (c .before .before .before .before .walk-node .ensures) (not-false _ (c .before .before .if1 .left)) (counted-here (c .before .before .before .before .before) .next);
+    }
+
+returns-2 : tie.Need-returns-2 Inv-loop μ-loop
+returns-2 c =
+    let k = c .before .before .loop .inv in
+    found-seven (k .frame) (k .four) (k .all) _ _ _ _ _ _ (k .so-far) (c .before .loop-test .left) (not-true _ (c .if2 .taken))
+
+returns-3 : tie.Need-returns-3 Inv-loop μ-loop
+returns-3 c =
+    let k = c .before .before .before .loop .inv in
+    found-none (k .frame) (k .four) (k .all) _ _ _ _ _ _ (k .so-far) (c .before .before .loop-test .left) (not-false _ (c .before .if2 .left)) (c .if3 .taken)
+
+returns-4 : tie.Need-returns-4 Inv-loop μ-loop
+returns-4 c =
+    let k = c .before .before .before .loop .inv in
+    found-eight (k .frame) (k .four) (k .all) _ _ _ _ _ _ (k .so-far) (c .before .before .loop-test .left) (not-false _ (c .before .if2 .left)) (c .if3 .left)
+
+pub walk-leaves-spec : {M : Type 1} → statement M
+walk-leaves-spec =
+    tie.close
+    (tie.spec
+    Inv-loop
+    μ-loop
+    (λ c κs. let f = c .before .before .before .pre .0 in omega arith)
+    loop-holds
+    (λ c κs. let f = c .before .loop .inv .frame in let h = c .loop-test .taken in omega (arith, f .nodes))
+    (λ c κs. place-inside c)
+    (λ c. omega (arith, counted-here c .few))
+    (λ c κs. (place-inside (c .before), steps-inside c, counted-here c .few))
+    (λ c. c .before .before .before .before .before .before .loop .inv .so-far .room .0 ∙ sym (c .before .before .before .before .before .before .before .before .before .before .before .pre .1 .1 .1 .0))
+    (λ c. c .before .before .before .before .before .before .loop .inv .so-far .room .1 ∙ sym (c .before .before .before .before .before .before .before .before .before .before .before .pre .1 .1 .1 .1))
+    returns
+    (λ c. omega arith)
+    (λ c. let k = c .before .before .before .before .before .before .before .before .loop .inv in let h = c .before .before .before .before .before .before .before .loop-test .taken in omega (arith, k .so-far .room .0, k .frame .nodes))
+    (λ c. omega arith)
+    (λ c. let k = c .before .before .before .before .before .before .before .before .loop .inv in let h = c .before .before .before .before .before .before .before .loop-test .taken in omega (arith, k .so-far .room .1, k .frame .nodes))
+    (λ c. omega (arith, counted-here (c .before .before .before .before .before) .few))
+    (λ c. omega (arith, steps-inside (c .before .before .before .before .before)))
+    (λ c. omega arith)
+    (λ c. omega arith)
+    loop-again
+    (λ c. c .before .before .loop .inv .so-far .room .0 ∙ sym (c .before .before .before .before .before .before .before .pre .1 .1 .1 .0))
+    (λ c. c .before .before .loop .inv .so-far .room .1 ∙ sym (c .before .before .before .before .before .before .before .pre .1 .1 .1 .1))
+    returns-2
+    (λ c. c .before .before .before .loop .inv .so-far .room .0 ∙ sym (c .before .before .before .before .before .before .before .before .pre .1 .1 .1 .0))
+    (λ c. c .before .before .before .loop .inv .so-far .room .1 ∙ sym (c .before .before .before .before .before .before .before .before .pre .1 .1 .1 .1))
+    returns-3
+    (λ c. c .before .before .before .loop .inv .so-far .room .0 ∙ sym (c .before .before .before .before .before .before .before .before .pre .1 .1 .1 .0))
+    (λ c. c .before .before .before .loop .inv .so-far .room .1 ∙ sym (c .before .before .before .before .before .before .before .before .pre .1 .1 .1 .1))
+    returns-4)

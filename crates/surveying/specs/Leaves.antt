@@ -1,0 +1,64 @@
+-- What is found of the leaves: of one node, and of all. Assumes nothing.
+use Prim.Native.Nat.{ℕ, _<_}
+use mathlib.Core.Path.{_≡_}
+use mathlib.Core.Bool.{Bool, true, false, not}
+use mathlib.Core.List.{List}
+use lib.Dec.{T}
+use lib.ListN.{length, getD}
+use Rattle.actions.specs.Sets.{ActionSet}
+use Rattle.policy.specs.Bytes.{Bytes}
+use Rattle.policy.specs.Records.{mostNodes, Node}
+use Rattle.policy.specs.Steps.{Step}
+use Rattle.policy.specs.Tree.{aLeaf, aTrivial, anUnsatisfiable, aPair, noNode, nodeKind, noPlace, places}
+use Rattle.rules.specs.Leaves.{everyLeaf}
+use Rattle.rules.specs.Targets.{targetsFit}
+use Rattle.rules.specs.Modes.{modesFit, broken7}
+use Rattle.rules.specs.Possible.{allTaken, broken8}
+use Rattle.rules.specs.Interference.{leafEffects}
+use Rattle.rules.specs.Spread.{insCount}
+use Rattle.walking.specs.declared.Walked.{Walked}
+
+-- f of a leaf's set and steps; any other node passes
+unfoldable pub nodePasses : (ActionSet → List Step → Bool) → Node → List Step → Bool
+nodePasses f x code = elim (nodeKind (x .kind)) [
+  | aLeaf ↦ f (x .set) code
+  | aTrivial ↦ true
+  | anUnsatisfiable ↦ true
+  | aPair w j ↦ true
+  | noNode ↦ true
+]
+
+-- rule 7 of a leaf, which does not ask for its set
+unfoldable pub modesOf : ActionSet → List Step → Bool
+modesOf r code = modesFit code
+
+-- the same number of a leaf
+unfoldable pub insertsOf : ActionSet → List Step → ℕ
+insertsOf r code = insCount code
+
+-- of a node: rule 6, and where that holds rules 7 and 8; of a leaf also its effect set and the number of its ins steps
+pub record NodeFound (w : Walked) (x : Node) (code : List Step) : Type 0 where
+  pub targets : w .targets ≡ nodePasses targetsFit x code
+  pub modes : T (nodePasses targetsFit x code) → w .modes ≡ nodePasses modesOf x code
+  pub taken : T (nodePasses targetsFit x code) → w .taken ≡ nodePasses allTaken x code
+  pub effects : nodeKind (x .kind) ≡ aLeaf → T (nodePasses targetsFit x code) → w .effects .bits ≡ leafEffects (x .set) code
+  pub inserts : nodeKind (x .kind) ≡ aLeaf → T (nodePasses targetsFit x code) → w .inserts ≡ insertsOf (x .set) code
+
+-- a list with room for every node, which holds f of each leaf before node i
+pub record Held (f : ActionSet → List Step → ℕ) (file : Bytes) (i : ℕ) (xs : List ℕ) : Type 0 where
+  pub room : length xs ≡ mostNodes
+  pub at : (k : ℕ) → k < i → nodeKind (getD (places file) k noPlace .node .kind) ≡ aLeaf
+      → getD xs k 0 ≡ f (getD (places file) k noPlace .node .set) (getD (places file) k noPlace .steps)
+
+-- the lowest of rules 6, 7 and 8 that is broken, and 0 if none is
+unfoldable pub lowest : Bool → Bool → Bool → ℕ
+lowest true seven eight = 6
+lowest false true eight = 7
+lowest false false true = 8
+lowest false false false = 0
+
+-- of all leaves: the lowest rule that one of them breaks, and where there is none, what is held of each
+pub record LeavesFound (file : Bytes) (n rule : ℕ) (effs ins : List ℕ) : Type 0 where
+  pub is : rule ≡ lowest (not (everyLeaf targetsFit (places file))) (broken7 file) (broken8 file)
+  pub effects : rule ≡ 0 → Held leafEffects file n effs
+  pub inserts : rule ≡ 0 → Held insertsOf file n ins

@@ -1,0 +1,2 @@
+mod Unions
+mod LeafWalk

@@ -1,0 +1,76 @@
+// One walk through a leaf's steps: rules 6, 7 and 8 of the leaf, its effect set, and how many ins steps it has.
+ghost use mathlib.Core.Path.{_≡_};
+ghost use Prim.Native.Nat.{_+_, _*_, _≤_, _<_};
+ghost use lib.ListN.{length};
+ghost use Rattle.policy.specs.Records.{rowAt};
+ghost use Rattle.policy.specs.Steps.{stepOf, isIns};
+ghost use Rattle.reading.specs.Code.{codeAt};
+ghost use Rattle.walking.specs.Leaf.{LeafFound};
+use actions::ActionSet;
+use modes::lead;
+use modes::mark;
+use modes::nexts_fit;
+use possible::branches_taken;
+use possible::pass_on;
+use possible::step_effects;
+use reading::byte;
+use targets::step_fits;
+
+// Rule 6, rule 7, rule 8, the effect set and the number of ins steps. Where rule 6 is broken, the others say nothing.
+pub struct Walked {
+    pub targets: bool,
+    pub modes: bool,
+    pub taken: bool,
+    pub effects: ActionSet,
+    pub inserts: u32,
+}
+
+// Only kind 4 is an ins.
+fn is_ins(policy: &[u8], at: usize) -> bool
+    requires { ⌜ at < length (now policy) ⌝ }
+    ensures { λ r. ⌜ r ≡ isIns (stepOf (rowAt (now (policy .entry)) at)) ⌝ }
+{
+    byte(policy, at) == 4
+}
+
+pub fn walk(policy: &[u8], at: usize, count: usize, set: ActionSet) -> Walked
+    requires { ⌜ (at + 12 * count ≤ length (now policy)) × (count ≤ 64) ⌝ }
+    ensures { λ r. ⌜ LeafFound r (set .bits) (codeAt (now (policy .entry)) at count) ⌝ }
+{
+    let mut seen = [0; 192];
+    mark(&mut seen, 0, 0);
+    let mut sets = [0u64; 64];
+    let mut modes = true;
+    let mut taken = true;
+    let mut effects = ActionSet::EMPTY;
+    let mut inserts: u32 = 0;
+    let mut o = 0;
+    while o < count {
+        let row = at + 12 * o;
+        let targets = step_fits(policy, at, count, o, set);
+        if !targets {
+            return Walked {
+                targets,
+                modes,
+                taken,
+                effects,
+                inserts,
+            };
+        }
+        modes = modes & lead(policy, row, o, &mut seen);
+        let p = ActionSet { bits: sets[o] };
+        taken = taken & branches_taken(policy, row, p);
+        effects = effects.union(step_effects(policy, row, p));
+        inserts += is_ins(policy, row) as u32;
+        pass_on(policy, row, p, set, &mut sets);
+        o += 1;
+    }
+    modes = modes & nexts_fit(policy, at, count, &seen);
+    Walked {
+        targets: true,
+        modes,
+        taken,
+        effects,
+        inserts,
+    }
+}
