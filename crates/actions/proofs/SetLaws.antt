@@ -1,16 +1,17 @@
 -- The laws of action sets, each said by membership: what is in the sets that the operations build, that a set below 2 ^ 64 is known by
 -- its members, and what the tests decide. Assumes nothing.
-use Prim.Native.Nat.{ℕ, zero, suc, _+_, _-_, _/_, _%_, _^_, _<_, _≤_}
-use native.Mathlib.Nat.{mod-lt, zero-lt-suc, zero-div, le-of-suc-le-suc, not-suc-le-zero, div-eq-of-lt, div-self, mul-div-cancel, mul-mod-left, pow-suc, div-one, lt-of-le-of-lt}
+use Prim.Native.Nat.{ℕ, zero, suc, _+_, _-_, _*_, _/_, _%_, _^_, _<_, _≤_}
+use native.Mathlib.Nat.{mod-lt, div-add-mod', zero-lt-suc, zero-div, le-of-suc-le-suc, not-suc-le-zero, div-eq-of-lt, div-self, mul-div-cancel, mul-mod-left, pow-suc, div-one, lt-of-le-of-lt}
 use native.Mathlib.Numerals.{add-one, one-add}
 use native.Mathlib.Omega.{arith}
-use mathlib.Core.Path.{_≡_, refl, sym, _∙_, ap, subst}
+use mathlib.Core.Path.{_≡_, refl, sym, _∙_, ap, ap₂, subst}
 use mathlib.Core.Bool.{Bool, true, false, not, _&&_, _||_, and-false, and-or-distrib-left}
 use mathlib.Core.Logic.{_⊎_}
 use borrow.Author.Tests.{leb-true, leb-false, lt-leb, le-leb, eq-eqb, ne-eqb, ltb-true, ltb-false}
+use lib.Arith.{bin-ind}
 use lib.Pow.{pow-pos, pow-lt, pow-add, shr-shr, shr-lt}
 use lib.Dec.{T, leb, eqb, ltb, eqb→eq, eqb-refl, T-not, not-T}
-use lib.Bits.{bitAnd, bitOr, bitXor, and-shr, and-mod, and-le-l, or-shr, or-mod, or-lt, xor-shr, xor-mod, xor-lt}
+use lib.Bits.{bitAnd, bitOr, bitXor, and-shr, and-mod, and-le-l, or-shr, or-mod, or-lt, or-zero-r, xor-shr, xor-mod, xor-lt}
 use Rattle.actions.proofs.Tests.{of-yes, no-of, and-intro, and-left, and-right, or-left, or-right, or-cases, not-false, twice, twice-back, both}
 use Rattle.actions.specs.Sets.{ActionSet, isAction, has, EMPTY, single, union, common, difference, isEmpty, within, meets}
 
@@ -291,3 +292,42 @@ unfolding meets isEmpty common
 apart-meets s t h f =
     twice-back (eqb (bitAnd s t) 0) (none-empty (bitAnd s t) (common-bound s t h) (λ a k.
     T-not (has t a) (f a (common-left s t a k)) (common-right s t a k)))
+
+-- ---- it does not matter how three sets are joined
+
+digits-assoc : (x y z : ℕ) → x < 2 → y < 2 → z < 2 → bitOr (bitOr x y) z ≡ bitOr x (bitOr y z)
+digits-assoc x y z f g h =
+    digit-cases (λ (x : ℕ). bitOr (bitOr x y) z ≡ bitOr x (bitOr y z))
+    refl
+    (digit-cases (λ (y : ℕ). bitOr (bitOr 1 y) z ≡ bitOr 1 (bitOr y z))
+    (digit-cases (λ (z : ℕ). bitOr (bitOr 1 0) z ≡ bitOr 1 (bitOr 0 z)) refl refl z h)
+    (digit-cases (λ (z : ℕ). bitOr (bitOr 1 1) z ≡ bitOr 1 (bitOr 1 z)) refl refl z h) y g) x f
+
+binary : (n : ℕ) → n % 2 < 2
+binary n = mod-lt n (zero-lt-suc 1)
+
+or-assoc : (a b c : ℕ) → bitOr (bitOr a b) c ≡ bitOr a (bitOr b c)
+or-assoc = bin-ind (λ (a : ℕ). (b c : ℕ) → bitOr (bitOr a b) c ≡ bitOr a (bitOr b c)) (λ b c. refl) step
+  where
+    step : (n : ℕ) → ((b c : ℕ) → bitOr (bitOr (n / 2) b) c ≡ bitOr (n / 2) (bitOr b c)) → (b c : ℕ) → bitOr (bitOr n b) c ≡ bitOr n (bitOr b c)
+    step n ih b c =
+        let x = bitOr (bitOr n b) c in let y = bitOr n (bitOr b c) in
+        let high : x / 2 ≡ y / 2 =
+        or-shr (bitOr n b) c 1 ∙ ap (λ (k : ℕ). bitOr k (c / 2)) (or-shr n b 1) ∙ ih (b / 2) (c / 2)
+        ∙ sym (or-shr n (bitOr b c) 1 ∙ ap (bitOr (n / 2)) (or-shr b c 1)) in
+        let low : x % 2 ≡ y % 2 =
+        or-mod (bitOr n b) c 1 ∙ ap (λ (k : ℕ). bitOr k (c % 2)) (or-mod n b 1) ∙ digits-assoc (n % 2) (b % 2) (c % 2) (binary n) (binary b) (binary c)
+        ∙ sym (or-mod n (bitOr b c) 1 ∙ ap (bitOr (n % 2)) (or-mod b c 1)) in
+        sym (div-add-mod' x 2) ∙ ap₂ (λ (h l : ℕ). h * 2 + l) high low ∙ div-add-mod' y 2
+
+pub union-assoc : (a b c : ActionSet) → union (union a b) c ≡ union a (union b c)
+unfolding union
+union-assoc a b c = or-assoc a b c
+
+pub union-none : (a : ActionSet) → union EMPTY a ≡ a
+unfolding union EMPTY
+union-none a = refl
+
+pub union-end : (a : ActionSet) → union a EMPTY ≡ a
+unfolding union EMPTY
+union-end a = or-zero-r a

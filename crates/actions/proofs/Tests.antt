@@ -79,3 +79,19 @@ implied false q h k = absurd k
 
 pub true-not-false : {A : Type 0} {b : Bool} → b ≡ true → b ≡ false → A
 true-not-false p q = absurd (subst T (sym p ∙ q) tt)
+
+-- ---- a conjunction, as an equation
+
+pub and-first : (p q : Bool) → p && q ≡ true → p ≡ true
+and-first p q e = yes-of p (and-left p q (of-yes (p && q) e))
+
+pub and-second : (p q : Bool) → p && q ≡ true → q ≡ true
+and-second p q e = yes-of q (and-right p q (of-yes (p && q) e))
+
+pub and-true : (a : Bool) → (a && true) ≡ a
+and-true true = refl
+and-true false = refl
+
+pub and-assoc : (a b c : Bool) → (a && (b && c)) ≡ ((a && b) && c)
+and-assoc true b c = refl
+and-assoc false b c = refl

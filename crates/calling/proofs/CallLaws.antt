@@ -1,27 +1,23 @@
 -- A call that no rule refuses: the root's phases, the verdict and the end of the call, joined into what the call gives. Assumes nothing.
 use Prim.Native.Nat.{ℕ, _+_, _*_, _≤_, _<_}
 use native.Mathlib.Omega.{arith}
-use mathlib.Core.Path.{_≡_, refl, sym, ap, ap₂, _∙_, subst}
+use mathlib.Core.Path.{_≡_, sym, ap, ap₂, _∙_, subst}
 use mathlib.Core.Bool.{Bool, true, false, _&&_}
-use mathlib.Core.List.{List, [], _++_, map, append-assoc}
+use mathlib.Core.List.{List, _++_, map, append-assoc}
 use lib.ListN.{length, getD, length-append, length-map}
 use Rattle.actions.specs.Sets.{Action, ActionSet, has}
-use Rattle.policy.specs.Bytes.{Bytes, number, put}
-use Rattle.policy.specs.Records.{mostNodes, nodeCount, stepCount}
-use Rattle.policy.specs.Tree.{Tree, leaf, trivial, unsatisfiable, node, numberOf, regulated, tree}
-use Rattle.policy.proofs.ByteLaws.{put-sets}
-use Rattle.rules.proofs.LawfulTree.{lawful, numbers-below-nodes}
+use Rattle.policy.specs.Bytes.{Bytes, put}
+use Rattle.policy.specs.Records.{nodeCount, stepCount}
+use Rattle.policy.specs.Tree.{Tree, regulated, tree}
 use Rattle.rules.proofs.Numbers.{tree-top}
 use Rattle.rules.specs.Passed.{Passed}
-use Rattle.rules.proofs.Rows.{counts-fit}
-use Rattle.turns.specs.Status.{Status, statusNumber, isRunning, isHalted}
+use Rattle.turns.specs.Status.{Status, statusNumber, isRunning}
 use Rattle.turns.specs.State.{State, status}
 use Rattle.turns.specs.Process.{Out, Process, trace, items}
 use Rattle.turns.specs.Turn.{Phase, before, after, isAsked, verdict, phase, fresh, Request, opening, offer, call}
 use Rattle.turns.specs.Events.{Event, inserted, eventOf, events, eventBytes}
-use Rattle.turns.specs.Saved.{statusAt, cell, load, saved}
-use Rattle.turns.specs.Entries.{carriedOut}
-use Rattle.turns.proofs.Cells.{Below, cellAt, Kept, lawful-apart, status-is, saved-length, saved-kept}
+use Rattle.turns.specs.Saved.{load, saved}
+use Rattle.turns.specs.Entries.{carriedOut, carried}
 use Rattle.memory.specs.Run.{insertsOf, stepsOf, endOf}
 use Rattle.memory.specs.Memory.{Mem, held, ranOf}
 use Rattle.starting.specs.Ready.{Ready}
@@ -29,20 +25,18 @@ use Rattle.driving.specs.Drives.{told, Drove}
 use Rattle.tables.specs.Tables.{Tabled}
 use Rattle.tables.proofs.FileNodes.{room}
 use Rattle.memory.proofs.Begin.{held-status}
-use Rattle.sides.proofs.Nodes.{number-at}
-use Rattle.calling.specs.declared.Answer.{Answer}
-use Rattle.calling.specs.declared.Answer.the-variants.{Answered}
+use Rattle.answering.specs.declared.Answer.{Answer}
+use Rattle.answering.specs.declared.Answer.the-variants.{Answered}
 use Rattle.calling.specs.declared.Call.{Call}
 use Rattle.calling.specs.Calls.{asked, Counted, Allowed}
-use Rattle.calling.specs.Replies.{spoken, Gave}
-use Rattle.calling.specs.Parts.{carried, Played, verdicts, Added, Ended}
+use Rattle.answering.specs.Replies.{spoken, Gave}
+use Rattle.calling.specs.Parts.{Played}
+use Rattle.answering.specs.Ends.{verdicts, Added, Ended}
+use Rattle.answering.proofs.EndLaws.{root-number, few-verdicts}
 use Rattle.calling.proofs.DriveBounds.{phase-told, phase-ends, turn-told, unasked-told, phase-room, turn-room, steps-fit}
 use Rattle.calling.proofs.EventLaws.{events-append}
 
 -- ---- the root
-
-root-number : (policy : Bytes) → numberOf (tree policy) ≡ 0
-root-number policy = ap numberOf (tree-top policy) ∙ number-at policy 0
 
 root-status : (policy : Bytes) (m : Mem) → status (held (tree policy) m) ≡ m 0 .status
 root-status policy m = held-status (tree policy) m ∙ ap (λ (i : ℕ). m i .status) (root-number policy)
@@ -54,31 +48,6 @@ unfolding isAsked
 root-asked {policy} h a m =
     ap₂ (λ (s : Status) (r : ActionSet). isRunning s && has r a) (root-status policy m)
     (ap regulated (tree-top policy) ∙ sym (h .tabled 0 (h .inside) .set))
-
--- ---- the end of a call
-
-kept-root : (t : Tree) (s : State) (bs : Bytes) → Kept t s bs → cellAt bs (numberOf t) ≡ cell s
-unfolding Kept numberOf
-kept-root (leaf i r c code) s bs k = k
-kept-root (trivial i) s bs k = k
-kept-root (unsatisfiable i) s bs k = k
-kept-root (node w j i l r) s bs k = k .0
-
-module _ {policy : Bytes} (ok : Passed policy) where
-  below : Below mostNodes (tree policy)
-  below i h = let k = numbers-below-nodes policy ok i h in omega (arith, counts-fit policy (ok .kept3) .few-nodes)
-
-  -- the saved state's first byte is the root's status
-  saved-root : (s : State) → statusAt (saved (tree policy) s) 0 ≡ statusNumber (status s)
-  saved-root s =
-      let t : Tree = tree policy in
-      status-is (saved t s) 0 (saved-length t below s) (omega arith) s
-      (subst (λ (i : ℕ). cellAt (saved t s) i ≡ cell s) (root-number policy)
-      (kept-root t s (saved t s) (saved-kept t (lawful-apart t (lawful policy ok)) below s)))
-
-  pub ended : {s : State} (n : ℕ) {b : ℕ} {bytes : Bytes} → bytes ≡ saved (tree policy) s → b ≡ number bytes 0 1 → Ended (tree policy) s n (Answered n b) bytes
-  unfolding statusAt
-  ended {s} n e f = record { answer = ap (Answered n) (f ∙ ap (λ (bs : Bytes). number bs 0 1) e ∙ saved-root s); state = e }
 
 -- the process that was run, and the end of the call
 pub gave : {t : Tree} {p : Process} {m : Mem} {room room′ bytes : Bytes} {n : ℕ} {r : Answer}
@@ -120,30 +89,6 @@ phase-played {t} {ph} {m} {room = room} d =
       counted = d .counted ∙ sym (ap (λ (es : List Event). length es) e ∙ length-map (insertsOf (ranOf t ph (held t m))) inserted);
       ends = sym (ap (λ (x : Out). x .state) (phase-ends t ph (held t m) ∙ d .ends));
     }
-
--- ---- the verdict
-
-pub no-verdict : (s : Status) (u : Bool) (a : Action) (room : Bytes) (n : ℕ) → isHalted s ≡ true → 2 * n + 2 ≤ length room → Added (verdicts s u a) room room n n
-unfolding verdicts eventBytes
-no-verdict s u a room n e h = rw (e, verdicts) (record { told = sym (put-sets room (2 * n) [] (omega arith)); counted = omega arith })
-
-verdict-one : (u : Bool) (a : Action) → length (eventOf (verdict u a)) ≡ 1
-unfolding eventOf verdict
-verdict-one true a = refl
-verdict-one false a = refl
-
-pub one-verdict : (s : Status) (u : Bool) (a : Action) {room room′ : Bytes} (n : ℕ) → isHalted s ≡ false
-    → room′ ≡ put room (2 * n) (eventBytes (eventOf (verdict u a))) → Added (verdicts s u a) room room′ n (n + 1)
-unfolding verdicts
-one-verdict s u a n e f = rw (e, verdicts) (record { told = f; counted = ap (λ (k : ℕ). n + k) (sym (verdict-one u a)) })
-
-few-verdicts : (s : Status) (u : Bool) (a : Action) → length (verdicts s u a) ≤ 1
-unfolding verdicts
-few-verdicts s u a = go (isHalted s)
-  where
-    go : (h : Bool) → length {A = Event} (elim h as (λ _. List Event) [ true ↦ [] | false ↦ eventOf (verdict u a) ]) ≤ 1
-    go true = omega arith
-    go false = omega (arith, verdict-one u a)
 
 -- ---- an action offered to the root
 

@@ -16,13 +16,13 @@ use Rattle.turns.specs.State.{State, status}
 use Rattle.turns.specs.Process.{Item, accepts, Out, Process, stop, does, both, then, outcome, trace, items}
 use Rattle.turns.specs.Turn.{Phase, before, after, quiet, isAsked, perhaps, verdict, phase, offer, call}
 use Rattle.turns.specs.Events.{Event, accepted, inserted, eventOf, events}
-use Rattle.turns.proofs.Count.{worth, count}
+use Rattle.turns.proofs.Count.{worth, count, events-append}
 use Rattle.turns.proofs.Spread.{phase-bound, turn-bound, events-count}
 use Rattle.turns.proofs.Throughout.{phase-no-verdict}
 use Rattle.turns.proofs.Work.{phase-steps}
 use Rattle.memory.specs.Run.{insertsOf, stepsOf, endOf}
 use Rattle.memory.specs.Memory.{ranOf}
-use Rattle.calling.specs.Parts.{verdicts}
+use Rattle.answering.specs.Ends.{verdicts}
 use Rattle.memory.proofs.Runs.{outcome-end, steps-flat, events-flat}
 
 -- ---- a phase
@@ -44,11 +44,6 @@ unfolding outcome then
 outcome-then (stop x) k = refl
 outcome-then (does i p) k = outcome-then p k
 outcome-then (both l r p q g) k = outcome-then (g (outcome p) (outcome q)) k
-
-events-append : (xs ys : List Item) → events (xs ++ ys) ≡ events xs ++ events ys
-unfolding events
-events-append [] ys = refl
-events-append (i ∷ xs) ys = ap (λ (es : List Event). eventOf i ++ es) (events-append xs ys) ∙ sym (append-assoc (eventOf i) (events xs) (events ys))
 
 items-then : (p : Process) (k : Out → Process) → items (trace (then p k)) ≡ items (trace p) ++ items (trace (k (outcome p)))
 unfolding outcome then trace items

@@ -2,15 +2,13 @@
 use Prim.Native.Nat.{ℕ, suc, _+_, _*_, _≤_}
 use native.Mathlib.Omega.{arith}
 use mathlib.Core.Path.{_≡_, refl, sym, ap, ap₂, _∙_}
-use mathlib.Core.Bool.{Bool}
 use mathlib.Core.List.{List, [], _∷_, _++_}
 use lib.ListN.{length, set, length-append}
 use lib.Seq.{sets}
 use Rattle.policy.specs.Bytes.{Bytes, put}
 use Rattle.policy.proofs.ByteLaws.{put-length, put-sets}
-use Rattle.turns.specs.Turn.{verdict}
 use Rattle.turns.proofs.Bounds.{two-each}
-use Rattle.turns.specs.Events.{Event, accepted, suppressed, inserted, eventOf, eventBytes}
+use Rattle.turns.specs.Events.{Event, accepted, suppressed, inserted, eventBytes}
 
 -- ---- bytes put after bytes
 
@@ -46,12 +44,3 @@ events-append room es fs n e h =
     let k : 2 * n ≡ 0 + length (eventBytes es) = omega (arith, two-each es) in
     put-append room 0 (eventBytes es) (2 * n) (eventBytes fs) k (omega (arith, two-each fs))
     ∙ ap (put room 0) (sym (bytes-append es fs))
-
--- the verdict's event, as code stores it
-pub said : (u : Bool) (room : Bytes) (n a b : ℕ) → 2 * n + 2 ≤ length room → eventBytes (eventOf (verdict u a)) ≡ b ∷ a ∷ []
-    → set (set room (2 * n) b) (2 * n + 1) a ≡ put room (2 * n) (eventBytes (eventOf (verdict u a)))
-said u room n a b h e =
-    let k : 2 * n + 1 ≡ suc (2 * n) = omega arith in
-    ap (λ (i : ℕ). set (set room (2 * n) b) i a) k
-    ∙ sym (put-sets room (2 * n) (b ∷ a ∷ []) (omega arith))
-    ∙ ap (put room (2 * n)) (sym e)

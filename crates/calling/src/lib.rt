@@ -1,39 +1,29 @@
 // A call that no rule refuses, carried out: the phases of the root, the verdict between them, the state tidied at the end.
 ghost use mathlib.Core.Path.{_≡_};
 ghost use mathlib.Core.Bool.{true};
-ghost use mathlib.Core.List.{[], _∷_};
 ghost use Prim.Native.Nat.{_+_, _*_, _≤_};
 ghost use lib.ListN.{length};
-ghost use Rattle.actions.specs.Sets.{Action};
-ghost use Rattle.policy.specs.Bytes.{Bytes, put};
 ghost use Rattle.policy.specs.Tree.{regulated, tree};
 ghost use Rattle.rules.specs.Passed.{Passed};
-ghost use Rattle.turns.specs.Status.{statusOf};
 ghost use Rattle.turns.specs.Turn as spec;
 ghost use Rattle.turns.specs.Turn.{before, opening, isAsked, call};
-ghost use Rattle.turns.specs.Events.{eventOf, eventBytes};
-ghost use Rattle.turns.specs.Saved.{statusAt};
-ghost use Rattle.turns.specs.Entries.{carriedOut};
+ghost use Rattle.turns.specs.Entries.{carried, carriedOut};
 ghost use Rattle.memory.specs.Memory.{phaseOf, view, held};
 ghost use Rattle.starting.specs.Ready.{Ready};
 ghost use Rattle.calling.specs.declared.Call.the-variants.{Open, Offer, Close};
 ghost use Rattle.calling.specs.Calls.{asked, Counted, Allowed};
-ghost use Rattle.calling.specs.Replies.{Gave};
-ghost use Rattle.calling.specs.Parts.{carried, Played, verdicts, Added, Ended};
+ghost use Rattle.calling.specs.Parts.{Played};
+ghost use Rattle.answering.specs.Replies.{Gave};
+use answering::Answer;
+use answering::finish;
+use answering::judge;
+use answering::say;
 use driving::drive;
-use reading::byte;
 use resting::awaken::awaken;
-use resting::tidy::tidy;
 use starting::asks;
 use tables::prepare;
 use views::PolicyView;
 use views::view_of;
-
-// The number of events and the root's status, or a refusal number.
-pub enum Answer {
-    Answered(usize, u8),
-    Refused(u8),
-}
 
 // Which call it is.
 pub enum Call {
@@ -47,12 +37,6 @@ const BEFORE: u8 = 0;
 const AFTER: u8 = 1;
 
 const CLOSING: u8 = 2;
-
-const ACCEPTED: u8 = 1;
-
-const SUPPRESSED: u8 = 2;
-
-const HALTED: u8 = 5;
 
 // A call on the caller's file, state and events: through a view of the file.
 pub fn carry_out(policy: &[u8], state: &mut [u8], events: &mut [u8], call: Call) -> Answer
@@ -204,45 +188,4 @@ fn turn(
         0,
     );
     count + second.events
-}
-
-// "The verdict's event stands between the phases; a halt before the verdict has none."
-fn judge(state: &[u8], events: &mut [u8], count: usize, suppressed: bool, action: u8) -> usize
-    requires { ⌜ (length (now state) ≡ 248) × (2 * count + 2 ≤ length (now events)) ⌝ }
-    ensures { λ r. ⌜ Added (verdicts (statusOf (statusAt (now (state .entry)) 0)) suppressed action) (now (events .entry)) (now (events .exit)) count r ⌝ }
-{
-    if byte(state, 0) == HALTED {
-        return count;
-    }
-    say(events, count, suppressed, action);
-    count + 1
-}
-
-// Writes the verdict's event, after so many.
-fn say(events: &mut [u8], count: usize, suppressed: bool, action: u8)
-    requires { ⌜ 2 * count + 2 ≤ length (now events) ⌝ }
-    ensures { λ _. ⌜ now (events .exit) ≡ put (now (events .entry)) (2 * count) (eventBytes (eventOf (spec.verdict suppressed action))) ⌝ }
-{
-    let at = 2 * count;
-    events[at] = verdict(suppressed);
-    events[at + 1] = action;
-}
-
-// The verdict's byte in its event.
-fn verdict(suppressed: bool) -> u8
-    ensures { λ r. ⌜ ((a : Action) → eventBytes (eventOf (spec.verdict suppressed a)) ≡ r ∷ a ∷ []) ⌝ }
-{
-    if suppressed {
-        return SUPPRESSED;
-    }
-    ACCEPTED
-}
-
-// Every answered call ends so: the state is made canonical, and the root's status read from it.
-fn finish(policy: &[u8], state: &mut [u8], count: usize) -> Answer
-    requires { ⌜ Passed (now policy) × (length (now state) ≡ 248) ⌝ }
-    ensures { λ r. ⌜ ((ws : Bytes) → Ended (tree (now (policy .entry))) (held (tree (now (policy .entry))) (view (now (state .entry)) ws)) count r (now (state .exit))) ⌝ }
-{
-    tidy(policy, state);
-    Answer::Answered(count, byte(state, 0))
 }

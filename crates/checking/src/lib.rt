@@ -3,17 +3,17 @@
 ghost use mathlib.Core.Path.{_≡_};
 ghost use Rattle.rules.specs.Check.{check};
 ghost use Rattle.rules.specs.Interference.{leafEffects};
-ghost use Rattle.surveying.specs.Leaves.{insertsOf, Held};
+ghost use Rattle.surveying.specs.Leaves.{insertsIn, Held};
 ghost use Rattle.checking.specs.Answers.{answered};
 ghost use Rattle.checking.specs.Kept.{FrontKept, LeavesKept};
 use actions::ActionSet;
+use children::broken5;
 use reading::byte;
 use reading::word16;
-use records::children::broken5;
-use records::layout::broken1;
-use records::layout::broken2;
-use records::layout::broken3;
-use records::layout::broken4;
+use records::broken1;
+use records::broken2;
+use records::broken3;
+use records::broken4;
 use sets::broken9;
 use sets::sets;
 use spreads::broken10;
@@ -30,7 +30,7 @@ pub enum Checked {
 fn check_tree(policy: &[u8], n: usize, m: usize, leaves: &[u64], inserts: &[u32]) -> Checked
     requires { ⌜ LeavesKept (now policy) n m ⌝ }
     requires { ⌜ Held leafEffects (now policy) n (now leaves) ⌝ }
-    requires { ⌜ Held insertsOf (now policy) n (now inserts) ⌝ }
+    requires { ⌜ Held insertsIn (now policy) n (now inserts) ⌝ }
     ensures { λ r. ⌜ answered r ≡ check (now (policy .entry)) ⌝ }
 {
     let mut regulated = [0u64; 31];

@@ -11,7 +11,7 @@ use lib.Seq.{drop-set-lt}
 use Rattle.actions.specs.Sets.{Action}
 use Rattle.policy.specs.Bytes.{Bytes, put}
 use Rattle.policy.specs.Tree.{Tree, numberOf, tree}
-use Rattle.rules.proofs.Numbers.{tree-top}
+use Rattle.rules.proofs.Numbers.{tree-top, number-at}
 use Rattle.policy.specs.Tree.{treeAt}
 use Rattle.turns.specs.Events.{inserted, eventBytes}
 use Rattle.turns.specs.Turn.{Phase}
@@ -25,7 +25,6 @@ use Rattle.memory.specs.Cells.{celled}
 use Rattle.memory.specs.Promises.{Kept, Wrote, afresh, Gives, Went, ahead}
 use Rattle.driving.specs.Drives.{told, Drove}
 use Rattle.memory.proofs.Frames.{same-or-not, own-number, held-apart, bare, held-saved, to-begin}
-use Rattle.sides.proofs.Nodes.{number-at}
 use Rattle.memory.proofs.Runs.{LetsOut, AtEnd, inserts-on, ends-so}
 
 -- ---- bytes that are put one at a time
@@ -149,7 +148,7 @@ module _ {t : Tree} {p : Run} {room₀ : Bytes} {place : ℕ} {m₁ m : Mem} {ro
 -- ---- the root told to begin
 
 pub tell-by : (old : code.Cell) (p a : ℕ) {bs ws bs₁ ws₁ : Bytes} → celled old (view bs ws 0 .offset) (view bs ws 0 .counter) ≡ view bs ws 0
-    → cells.Wrote 0 (celled (record { stage = 0; phase = p; action = a; fed = old .fed; sup = old .sup; status = old .status; mark = old .mark })
+    → cells.CellWritten 0 (celled (record { stage = 0; phase = p; action = a; fed = old .fed; sup = old .sup; status = old .status; mark = old .mark })
     (view bs ws 0 .offset) (view bs ws 0 .counter)) bs ws bs₁ ws₁
     → Wrote 0 (afresh (view bs ws 0) (phaseOf p a)) (view bs ws) (view bs₁ ws₁)
 unfolding celled

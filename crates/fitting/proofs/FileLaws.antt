@@ -1,7 +1,7 @@
 -- The nodes of a passed policy, from what the code reads of their records. Assumes nothing.
 use Prim.Native.Nat.{ℕ, _+_, _-_, _*_, _≤_, _<_}
 use native.Mathlib.Omega.{arith}
-use mathlib.Core.Path.{_≡_, refl, sym, ap, _∙_, subst}
+use mathlib.Core.Path.{_≡_, sym, ap, _∙_, subst}
 use mathlib.Core.Bool.{false, _&&_}
 use mathlib.Core.List.{List, map}
 use lib.Dec.{eqb, leb}
@@ -10,9 +10,9 @@ use Rattle.policy.specs.Bytes.{Bytes, number}
 use Rattle.policy.specs.Lists.{summed}
 use Rattle.policy.specs.Records.{nodeSize, Node, nodeCount, stepCount, nodeAt, nodePlace, nodes}
 use Rattle.policy.specs.Steps.{Step, halt, isNext}
-use Rattle.policy.specs.Tree.{Way, Join, NodeKind, aLeaf, aTrivial, anUnsatisfiable, aPair, noNode, nodeKind, owned, places, leaf, trivial, unsatisfiable, node, numberOf}
+use Rattle.policy.specs.Tree.{Way, Join, NodeKind, aLeaf, aTrivial, anUnsatisfiable, aPair, noNode, nodeKind, owned, places, leaf, trivial, unsatisfiable, node}
 use Rattle.rules.specs.Passed.{Passed}
-use Rattle.rules.proofs.Grown.{placeIn, nodeIn, shaped, grown-is}
+use Rattle.rules.proofs.Grown.{placeIn, nodeIn, shaped}
 use Rattle.rules.proofs.Numbers.{tree-at, node-in, ChildrenLater, children-later}
 use Rattle.policy.specs.Tree.{treeAt}
 use Rattle.records.specs.Frame.{Framed}
@@ -43,10 +43,6 @@ module _ (file : Bytes) (at count start : ℕ) (bs : Bytes) (i o : ℕ) (e : o �
       λ j. n j && leb (g j) start
 
 -- ---- the tree
-
-pub number-at : (file : Bytes) (i : ℕ) → numberOf (treeAt file i) ≡ i
-unfolding treeAt numberOf
-number-at file i = grown-is (places file) (λ k t. numberOf t ≡ k) (λ k. refl) (λ k. refl) (λ k e. refl) (λ w j k l r e x y. refl) _ i
 
 module _ {file : Bytes} (ok : Passed file) where
   pub frame : Framed file (nodeCount file) (stepCount file)

@@ -13,7 +13,8 @@ use Rattle.policy.specs.Tree.{Way, Join, Tree, leaf, trivial, unsatisfiable, no
 use Rattle.turns.specs.Status.{statusOf, isRunning}
 use Rattle.turns.specs.Saved.{statusAt, droppedWith, isRunningAt, statuses, undecided, bare, waitsAt, fitsUnder}
 use Rattle.fitting.specs.Alone.{fitsAlone}
-use Rattle.fitting.proofs.StatusLaws.{running-one, or-three}
+use Rattle.fitting.proofs.StatusLaws.{or-three}
+use Rattle.turns.proofs.StatusLaws.{running-one}
 
 -- ---- a node and its parent
 

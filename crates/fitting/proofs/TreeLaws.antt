@@ -10,12 +10,11 @@ use lib.Seq.{getD-set-same, getD-set-other}
 use borrow.Author.Tests.{eqb-true, eqb-false}
 use Rattle.policy.specs.Bytes.{Bytes}
 use Rattle.policy.specs.Tree.{Tree, tree}
-use Rattle.rules.proofs.Numbers.{tree-top}
+use Rattle.rules.proofs.Numbers.{tree-top, number-at}
 use Rattle.policy.specs.Tree.{treeAt}
 use Rattle.turns.specs.Saved.{statusAt, fitsUnder}
 use Rattle.fitting.specs.Alone.{fitsAlone}
 use Rattle.fitting.proofs.NodeLaws.{under}
-use Rattle.fitting.proofs.FileLaws.{number-at}
 
 -- of n nodes those from i on have their answers in `fit`
 abbrev pub Known : Bytes → Bytes → ℕ → List Bool → ℕ → Type 0

@@ -3,7 +3,7 @@ use Prim.Native.Nat.{ℕ, zero, suc, _+_, _*_, _^_, _≤_}
 use native.Mathlib.Nat.{one-le-pow, zero-lt-suc, zero-mul, suc-mul}
 use native.Mathlib.Omega.{arith}
 use mathlib.Core.Path.{_≡_, refl, sym, ap, _∙_}
-use mathlib.Core.Bool.{Bool, true, false, _&&_}
+use mathlib.Core.Bool.{Bool, true, _&&_}
 use mathlib.Core.List.{[], _∷_, _++_}
 use lib.Dec.{eqb}
 use lib.ListN.{length, take, drop, take-append-drop, drop-of-length-le}
@@ -13,6 +13,7 @@ use Rattle.policy.specs.Bytes.{Bytes, spelt, number}
 use Rattle.policy.specs.Lists.{every}
 use Rattle.policy.proofs.ByteLaws.{spelt-head, spelt-from}
 use Rattle.turns.specs.Saved.{stateSize, cellPlace, zerosAt, zerosUpTo}
+use Rattle.actions.proofs.Tests.{and-assoc}
 
 abbrev pub isZero : ℕ → Bool
 isZero b = eqb b 0
@@ -21,10 +22,6 @@ every-append : (xs ys : Bytes) → every isZero (xs ++ ys) ≡ (every isZero xs 
 unfolding every
 every-append [] ys = refl
 every-append (x ∷ xs) ys = ap (λ (b : Bool). isZero x && b) (every-append xs ys) ∙ and-assoc (isZero x) (every isZero xs) (every isZero ys)
-  where
-    and-assoc : (a b c : Bool) → (a && (b && c)) ≡ (a && b && c)
-    and-assoc true b c = refl
-    and-assoc false b c = refl
 
 -- a number of two parts is zero where both are
 zero-sum : (b p n : ℕ) → 1 ≤ p → eqb (b * p + n) 0 ≡ (eqb b 0 && eqb n 0)

@@ -13,7 +13,7 @@ ghost use Rattle.rules.specs.Passed.{Passed};
 ghost use Rattle.reading.specs.Kinds.{joinOf};
 ghost use Rattle.reading.specs.Code.{codeAt};
 ghost use Rattle.surveying.specs.First.{firstStep};
-ghost use Rattle.turns.specs.Status.{statusOf, hasEnded, isHalted};
+ghost use Rattle.turns.specs.Status.{statusOf};
 ghost use Rattle.turns.specs.Saved.{stateSize, cellPlace, statusAt, statuses, undecided, bare, waitsAt, fitsUnder, zerosUpTo, fits};
 ghost use Rattle.fitting.specs.Alone.{fitsAlone};
 use reading::Join;
@@ -28,6 +28,8 @@ use reading::node_start;
 use reading::word16;
 use reading::word32;
 use reading::word64;
+use sides::has_ended;
+use sides::is_halted;
 
 // ---- one record of the state
 
@@ -61,18 +63,6 @@ fn waits(policy: &[u8], at: usize, count: usize, start: u64, state: &[u8], i: us
 }
 
 // ---- statuses
-
-fn has_ended(s: u8) -> bool
-    ensures { λ r. ⌜ r ≡ hasEnded (statusOf s) ⌝ }
-{
-    (2 <= s) & (s <= 4)
-}
-
-fn is_halted(s: u8) -> bool
-    ensures { λ r. ⌜ r ≡ isHalted (statusOf s) ⌝ }
-{
-    s == 5
-}
 
 // A status that a node of this join can have.
 fn is_status(join: Join, s: u8) -> bool

@@ -1,16 +1,16 @@
 -- An answer and the word that stands for it. Assumes nothing.
-use Prim.Native.Nat.{ℕ, _+_, _*_, _≤_}
+use Prim.Native.Nat.{ℕ, _+_, _*_}
 use native.Mathlib.Omega.{arith}
-use mathlib.Core.Path.{_≡_, refl, sym, _∙_, ap, subst}
+use mathlib.Core.Path.{_≡_, refl, sym, subst}
 use Rattle.policy.specs.Bytes.{Bytes}
 use Rattle.rules.specs.Check.{Answer as Checked, passes, refused}
-use Rattle.turns.specs.Status.{Status, statusNumber}
+use Rattle.turns.specs.Status.{statusNumber}
 use Rattle.turns.specs.Turn.{Request}
-use Rattle.turns.specs.Entries.{Reply, answers, refuses, Result, entry}
+use Rattle.turns.specs.Entries.{Reply, answers, refuses, entry}
 use Rattle.turns.proofs.Bounds.{answered-emits}
-use Rattle.calling.specs.declared.Answer as guard
-use Rattle.calling.specs.declared.Answer.the-variants.{Answered, Refused}
-use Rattle.calling.specs.Replies.{spoken}
+use Rattle.answering.specs.declared.Answer as guard
+use Rattle.answering.specs.declared.Answer.the-variants.{Answered, Refused}
+use Rattle.answering.specs.Replies.{spoken}
 use Rattle.fretmere.specs.Words.{Says, word, Few}
 
 pub answered-word : (n s : ℕ) (x : Reply) → Answered n s ≡ spoken x → s * 65536 + n ≡ word x

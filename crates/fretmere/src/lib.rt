@@ -1,11 +1,10 @@
 // The static library for C: the four entry points on the caller's buffers, each answer in one word.
 ghost use mathlib.Core.Path.{_≡_};
-ghost use Prim.Native.Nat.{_≤_};
 ghost use Rattle.rules.specs.Check.{check};
 ghost use Rattle.turns.specs.Entries.{Reply, opens, offers, closes};
-ghost use Rattle.calling.specs.Replies.{spoken};
+ghost use Rattle.answering.specs.Replies.{spoken};
 ghost use Rattle.fretmere.specs.Words.{Says, Few, word, Gave};
-use calling::Answer;
+use answering::Answer;
 use checking::Checked;
 use checking::check;
 use guard::close;

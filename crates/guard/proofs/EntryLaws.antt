@@ -1,11 +1,11 @@
 -- The entry points: the refusals in their order, and what is carried out where none applies. Assumes nothing.
 use Prim.Native.Nat.{ℕ, _≤_, _<_}
 use mathlib.Core.Path.{_≡_, refl, sym, ap, _∙_, subst}
-use mathlib.Core.Bool.{Bool, true, false, not}
+use mathlib.Core.Bool.{true, false, not}
 use mathlib.Core.List.{List, [], _∷_}
-use lib.Dec.{T, eqb}
+use lib.Dec.{T}
 use lib.ListN.{length}
-use borrow.Author.Tests.{eqb-true, eqb-false, lt-leb, le-leb}
+use borrow.Author.Tests.{lt-leb, le-leb}
 use Rattle.actions.specs.Sets.{isAction}
 use Rattle.actions.specs.declared.ActionSet.{ActionSet}
 use Rattle.actions.proofs.Tests.{not-not}
@@ -15,17 +15,15 @@ use Rattle.rules.proofs.Passed.{passed}
 use Rattle.checking.specs.declared.Checked.{Checked}
 use Rattle.checking.specs.declared.Checked.the-variants.{Passed, Refused}
 use Rattle.checking.specs.Answers.{answered}
-use Rattle.turns.specs.Status.{statusOf, isHalted}
 use Rattle.turns.specs.Turn.{Request, close}
 use Rattle.turns.specs.Saved.{fits}
 use Rattle.turns.specs.Entries.{Result, refusal, carriedOut, broken11, broken12, broken13, Refusal, refusals, unless, entry}
 use Rattle.turns.proofs.Answered.{kept-11}
-use Rattle.sides.proofs.StatusBytes.{not-halted}
-use Rattle.calling.specs.declared.Answer.{Answer}
-use Rattle.calling.specs.declared.Answer.the-variants as answers
+use Rattle.answering.specs.declared.Answer.{Answer}
+use Rattle.answering.specs.declared.Answer.the-variants as answers
 use Rattle.calling.specs.declared.Call.{Call}
 use Rattle.calling.specs.Calls.{readable, Allowed}
-use Rattle.calling.specs.Replies.{spoken, Gave}
+use Rattle.answering.specs.Replies.{spoken, Gave}
 
 -- ---- what a refusal that does not apply says
 
@@ -43,13 +41,6 @@ no-action a h = ap not (lt-leb a 63 h)
 pub an-action : (a : ℕ) → a ≤ 63 → broken13 a ≡ false
 unfolding broken13 isAction
 an-action a h = ap not (le-leb a 63 h)
-
-pub halted-five : (n : ℕ) → eqb n 5 ≡ isHalted (statusOf n)
-halted-five n = go (eqb n 5) refl
-  where
-    go : (b : Bool) → eqb n 5 ≡ b → b ≡ isHalted (statusOf n)
-    go true e = sym (unfold isHalted statusOf in ap (λ (k : ℕ). isHalted (statusOf k)) (eqb-true n 5 e))
-    go false e = sym (not-halted n (eqb-false n 5 e))
 
 -- ---- the check's answer
 

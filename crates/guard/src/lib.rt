@@ -1,11 +1,11 @@
 // The entry points: open, offer and close, on slices that the caller lends. The check is crate checking's.
 ghost use Rattle.turns.specs.Entries.{opens, offers, closes};
-ghost use Rattle.calling.specs.Replies.{Gave};
+ghost use Rattle.answering.specs.Replies.{Gave};
 use crate::refusals::halted;
 use crate::refusals::number;
 use crate::refusals::short;
 use crate::refusals::unfit;
-use calling::Answer;
+use answering::Answer;
 use calling::Call;
 use calling::carry_out;
 use checking::Checked;

@@ -1,26 +1,18 @@
--- What the code's values stand for: a request, a short word, a text in a lent buffer. Assumes nothing.
+-- What the code's values stand for: a short word, a text in a lent buffer. Assumes nothing.
 use Prim.Native.Nat.{ℕ, _+_, _≤_}
 use mathlib.Core.Path.{_≡_}
 use mathlib.Core.List.{_++_}
 use lib.ListN.{length, take}
 use Rattle.policy.specs.Bytes.{Bytes}
-use Rattle.turns.specs.Turn.{opening, offer, close}
-use Rattle.turns.specs.Turn as turns
+use Rattle.turns.specs.Turn.{Request}
 use Rattle.turns.specs.Entries.{Result}
 use Rattle.guardrun.specs.Said.{Said, said}
 use Rattle.guardrun.specs.declared.text.Word.{Word}
 use Rattle.guardrun.specs.declared.calls.Told.{Told}
-use Rattle.guardrun.specs.declared.calls.Request.{Request}
-use Rattle.guardrun.specs.declared.calls.Request.the-variants.{Open, Offer, Close}
 
 -- the longest text: `open running`, 256 events of three digits, `close halted`
 abbrev pub textRoom : ℕ
 textRoom = 2075
-
-unfoldable pub asked : Request → turns.Request
-asked Open = opening
-asked (Offer a) = offer a
-asked Close = close
 
 -- The word has these bytes, at most so many.
 pub record Spells (w : Word) (most : ℕ) (what : Bytes) : Type 0 where
@@ -40,7 +32,7 @@ pub record Tells (s : Said) (buffer : Bytes) (t : Told) : Type 0 where
   pub inside : t .end ≤ length buffer
 
 -- A call gave its result, and the buffer begins with what is said of it.
-pub record Spoke (x : Result) (q : turns.Request) (saved room buffer : Bytes) (t : Told) : Type 0 where
+pub record Spoke (x : Result) (q : Request) (saved room buffer : Bytes) (t : Told) : Type 0 where
   pub state : saved ≡ x .state
   pub events : room ≡ x .events
   pub tells : Tells (said q (x .reply) (x .events)) buffer t

@@ -8,9 +8,9 @@ ghost use Prim.Native.Nat.{_≤_};
 ghost use lib.ListN.{length};
 ghost use Rattle.policy.specs.Bytes.{number};
 ghost use Rattle.guardrun.specs.Said.{policyEnd};
-use crate::calls::Request;
 use crate::calls::Told;
 use crate::calls::tell;
+use calling::Call;
 use libc::STDIN_FILENO;
 use libc::STDOUT_FILENO;
 use reading::word16;
@@ -60,12 +60,12 @@ fn say(text: &[u8], told: Told) -> bool
 }
 
 // The next byte's action; closing where the input has ended.
-fn next() -> Request {
+fn next() -> Call {
     let mut action = [0u8; 1];
     if io::read_full(STDIN_FILENO, &mut action) == 1 {
-        Request::Offer(action[0])
+        Call::Offer(action[0])
     } else {
-        Request::Close
+        Call::Close
     }
 }
 
@@ -74,7 +74,7 @@ fn run(policy: &[u8]) {
     let mut state = [0u8; 248];
     let mut events = [0u8; 512];
     let mut text = io::buffer();
-    let mut request = Request::Open;
+    let mut request = Call::Open;
     let mut left = u64::MAX;
     while left > 0 {
         let told = tell(policy, &mut state, &mut events, &mut text, request);

@@ -14,7 +14,7 @@ use Rattle.turns.specs.State.{State, at, leafOver}
 use Rattle.turns.specs.Saved.{offsetAt, counterAt}
 use Rattle.memory.specs.Run.{Next, insert, done, more, cut}
 use Rattle.memory.specs.Memory.{Cell, Mem, view, phaseOf, leafed, held, actionOf, staged, rest}
-use Rattle.memory.specs.Cells.{celled, Wrote}
+use Rattle.memory.specs.Cells.{celled, CellWritten}
 use Rattle.memory.specs.declared.cells.Cell as cells
 use Rattle.memory.specs.Promises.{Gives}
 use Rattle.leaves.specs.declared.Last.{Last}
@@ -25,7 +25,7 @@ use Rattle.memory.specs.declared.outcomes.Progress.{Progress}
 use Rattle.memory.specs.declared.outcomes.Progress.the-variants.{Insert, Done}
 use Rattle.leaves.specs.Leaf.{goesOn, ends, lasts, Stopped, Starts, Started, Only, Lands, Landed, Ran}
 
-only : {i : ℕ} {y : Cell} {bs ws bs′ ws′ : Bytes} → Wrote i y bs ws bs′ ws′ → Only i bs ws bs′ ws′
+only : {i : ℕ} {y : Cell} {bs ws bs′ ws′ : Bytes} → CellWritten i y bs ws bs′ ws′ → Only i bs ws bs′ ws′
 only w = record { others = w .others; spares = w .spares; tail = w .tail }
 
 -- the cell x with another stage, status and mark
@@ -33,8 +33,8 @@ abbrev pub turned : cells.Cell → ℕ → ℕ → ℕ → cells.Cell
 turned x stage status mark = record { stage = stage; phase = x .phase; action = x .action; fed = x .fed; sup = x .sup; status = status; mark = mark }
 
 -- the code's cell, once it is known which it is
-wrote-as : (o c : ℕ) {i : ℕ} {x y : cells.Cell} {bs ws bs′ ws′ : Bytes} → x ≡ y → Wrote i (celled x o c) bs ws bs′ ws′ → Wrote i (celled y o c) bs ws bs′ ws′
-wrote-as o c {i} {bs = bs} {ws = ws} {bs′ = bs′} {ws′ = ws′} e w = subst (λ (z : cells.Cell). Wrote i (celled z o c) bs ws bs′ ws′) e w
+wrote-as : (o c : ℕ) {i : ℕ} {x y : cells.Cell} {bs ws bs′ ws′ : Bytes} → x ≡ y → CellWritten i (celled x o c) bs ws bs′ ws′ → CellWritten i (celled y o c) bs ws bs′ ws′
+wrote-as o c {i} {bs = bs} {ws = ws} {bs′ = bs′} {ws′ = ws′} e w = subst (λ (z : cells.Cell). CellWritten i (celled z o c) bs ws bs′ ws′) e w
 
 over-zeros : (s : Status) → leafOver s ≡ leafed s false 0 0
 unfolding leafed leafOver
@@ -46,12 +46,12 @@ over-zeros s = go (isRunning s)
 
 module _ {i : ℕ} (x : cells.Cell) {bs ws bs′ ws′ : Bytes} where
   -- the run's end, as the written cell holds it
-  done-by : {y : Cell} → Wrote i y bs ws bs′ ws′ → (r : ActionSet) (c₀ : ℕ) (code : List Step) (u : Bool)
+  done-by : {y : Cell} → CellWritten i y bs ws bs′ ws′ → (r : ActionSet) (c₀ : ℕ) (code : List Step) (u : Bool)
       → ends (leafed (y .status) (y .asked) (y .offset) (y .counter)) u ≡ done 0 (record { state = held (leaf i r c₀ code) (view bs′ ws′); suppressed = u })
   unfolding held ends
   done-by w r c₀ code u = ap (λ (z : Cell). done 0 (record { state = leafed (z .status) (z .asked) (z .offset) (z .counter); suppressed = u })) (sym (w .here))
 
-  pub lands-stay : {a : Action} {n o c stage : ℕ} {l : Last} {to : cells.Cell} → l ≡ Stay → to ≡ turned x stage 1 0 → Wrote i (celled to o c) bs ws bs′ ws′
+  pub lands-stay : {a : Action} {n o c stage : ℕ} {l : Last} {to : cells.Cell} → l ≡ Stay → to ≡ turned x stage 1 0 → CellWritten i (celled to o c) bs ws bs′ ws′
       → Landed i a (record { steps = n; last = l; offset = o; counter = c }) bs ws bs′ ws′ (Done false)
   unfolding Lands lasts ends celled leafed statusOf isRunning
   lands-stay {a} {n} {o} {c} e f w = record {
@@ -59,7 +59,7 @@ module _ {i : ℕ} (x : cells.Cell) {bs ws bs′ ws′ : Bytes} where
     only = only w;
   }
 
-  pub lands-stops : {a : Action} {n o c stage t : ℕ} {u : Bool} {l : Last} {to : cells.Cell} → l ≡ Stops t u → to ≡ turned x stage 1 1 → Wrote i (celled to t c) bs ws bs′ ws′
+  pub lands-stops : {a : Action} {n o c stage t : ℕ} {u : Bool} {l : Last} {to : cells.Cell} → l ≡ Stops t u → to ≡ turned x stage 1 1 → CellWritten i (celled to t c) bs ws bs′ ws′
       → Landed i a (record { steps = n; last = l; offset = o; counter = c }) bs ws bs′ ws′ (Done u)
   unfolding Lands lasts ends celled leafed statusOf isRunning
   lands-stops {a} {n} {o} {c} {t = t} {u = u} e f w = record {
@@ -67,7 +67,7 @@ module _ {i : ℕ} (x : cells.Cell) {bs ws bs′ ws′ : Bytes} where
     only = only w;
   }
 
-  pub lands-over : {a : Action} {n o c stage s : ℕ} {l : Last} {to : cells.Cell} → l ≡ Over s → to ≡ turned x stage s 0 → Wrote i (celled to 0 0) bs ws bs′ ws′
+  pub lands-over : {a : Action} {n o c stage s : ℕ} {l : Last} {to : cells.Cell} → l ≡ Over s → to ≡ turned x stage s 0 → CellWritten i (celled to 0 0) bs ws bs′ ws′
       → Landed i a (record { steps = n; last = l; offset = o; counter = c }) bs ws bs′ ws′ (Done false)
   unfolding Lands lasts celled
   lands-over {a} {n} {o} {c} {s = s} e f w = record {
@@ -75,7 +75,7 @@ module _ {i : ℕ} (x : cells.Cell) {bs ws bs′ ws′ : Bytes} where
     only = only w;
   }
 
-  pub lands-insert : {n o c status mark b t : ℕ} {l : Last} {to : cells.Cell} → l ≡ Inserts b t → to ≡ turned x 1 status mark → Wrote i (celled to t c) bs ws bs′ ws′
+  pub lands-insert : {n o c status mark b t : ℕ} {l : Last} {to : cells.Cell} → l ≡ Inserts b t → to ≡ turned x 1 status mark → CellWritten i (celled to t c) bs ws bs′ ws′
       → Landed i (actionOf (phaseOf (x .phase) (x .action))) (record { steps = n; last = l; offset = o; counter = c }) bs ws bs′ ws′ (Insert b)
   unfolding Lands lasts celled rest held staged
   lands-insert {n} {o} {c} {b = b} {t = t} e f w = record {

@@ -27,17 +27,6 @@ use Rattle.memory.proofs.Runs.{more-none}
 
 -- ---- who is asked
 
-pub not-running : (n : ℕ) → (n ≡ 1 → ⊥) → isRunning (statusOf n) ≡ false
-unfolding statusOf isRunning
-not-running zero h = refl
-not-running (suc zero) h = absurd (h refl)
-not-running (suc (suc zero)) h = refl
-not-running (suc (suc (suc zero))) h = refl
-not-running (suc (suc (suc (suc zero)))) h = refl
-not-running (suc (suc (suc (suc (suc zero))))) h = refl
-not-running (suc (suc (suc (suc (suc (suc zero)))))) h = refl
-not-running (suc (suc (suc (suc (suc (suc (suc n))))))) h = refl
-
 leafed-over : (s : Status) (m : Bool) (o c : ℕ) → isRunning s ≡ false → leafed s m o c ≡ leafOver s
 unfolding leafed
 leafed-over s m o c e = rw (e, leafed)

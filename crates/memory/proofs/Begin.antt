@@ -3,9 +3,9 @@ use Prim.Native.Nat.{ℕ}
 use mathlib.Core.Path.{_≡_, refl, sym, ap, ap₂, _∙_}
 use mathlib.Core.Bool.{Bool, true, false, _&&_}
 use Rattle.actions.specs.Sets.{Action, ActionSet, has}
-use Rattle.actions.proofs.Tests.{yes-of, of-yes, and-left, true-not-false}
+use Rattle.actions.proofs.Tests.{and-first}
 use Rattle.policy.specs.Tree.{Way, parallel, sequential, Join, Tree, leaf, trivial, unsatisfiable, node, numberOf, regulated}
-use Rattle.turns.specs.Status.{Status, running, ended, endedLeft, endedRight, halted, dropped, isRunning, joined}
+use Rattle.turns.specs.Status.{Status, ended, halted, dropped, isRunning, joined}
 use Rattle.turns.specs.State.{State, at, over, status, asked, leftOf, rightOf, leafOver, drop, noded, settled}
 use Rattle.turns.specs.Process.{ran, lets, sups, accepts, suppresses, Out}
 use Rattle.turns.specs.Turn.{Phase, before, after, closing, Behaviour, quiet, emitted, stillAsked, leafWork, parallelWork, sequentialWork, isAsked, ifAsked, phase, fresh}
@@ -13,17 +13,10 @@ use Rattle.turns.proofs.Rest.{gone}
 use Rattle.memory.specs.Run.{Run, halts, goes, andThen, flat, unlessRun, maybe, fedAfter, fedBefore, givenRun, feedRun}
 use Rattle.memory.specs.Memory.{Cell, Mem, leafed, held, ranOf, parRight, parLeft, own, ends, atLeft, atFirst}
 use Rattle.memory.proofs.Runs.{ext, ext₂, flat-then, flat-if, flat-unless, flat-feed}
+use Rattle.turns.proofs.StatusLaws.{is-running}
+use Rattle.turns.proofs.Walk.{fresh-runs}
 
 -- ---- the state that a memory holds
-
-pub is-running : (s : Status) → isRunning s ≡ true → s ≡ running
-unfolding isRunning
-is-running running e = refl
-is-running ended e = true-not-false e refl
-is-running endedLeft e = true-not-false e refl
-is-running endedRight e = true-not-false e refl
-is-running halted e = true-not-false e refl
-is-running dropped e = true-not-false e refl
 
 -- a node's own status is the one in its cell
 leafed-status : (b : Bool) (s : Status) (m : Bool) (o c : ℕ) → status (elim b [ true ↦ at s m o c | false ↦ leafOver s ]) ≡ s
@@ -73,9 +66,6 @@ asked-in r (before a) t m = ap (λ (s : Status). isRunning s && has r a) (held-s
 asked-in r after t m = held-asked t m
 asked-in r closing t m = ap isRunning (held-status t m)
 
-and-first : (p q : Bool) → p && q ≡ true → p ≡ true
-and-first p q e = yes-of p (and-left p q (of-yes (p && q) e))
-
 -- a node that is asked runs
 asked-runs : (r : ActionSet) (ph : Phase) (x : Cell) → askedIn r ph x ≡ true → isRunning (x .status) ≡ true
 unfolding askedIn
@@ -103,16 +93,16 @@ unfolding drop leafOver
 leafed-drop true s m o c = refl
 leafed-drop false s m o c = refl
 
-drop-drop : (s : State) → drop (drop s) ≡ drop s
+pub drop-twice : (s : State) → drop (drop s) ≡ drop s
 unfolding drop leafOver
-drop-drop (at s m o c) = refl
-drop-drop (over s m l r) = ap₂ (over dropped false) (drop-drop l) (drop-drop r)
+drop-twice (at s m o c) = refl
+drop-twice (over s m l r) = ap₂ (over dropped false) (drop-twice l) (drop-twice r)
 
 noded-drop : (b : Bool) (s : Status) (m : Bool) (l r : State)
     → drop (elim b [ true ↦ over s m l r | false ↦ over s false (drop l) (drop r) ]) ≡ over dropped false (drop l) (drop r)
 unfolding drop
 noded-drop true s m l r = refl
-noded-drop false s m l r = ap₂ (over dropped false) (drop-drop l) (drop-drop r)
+noded-drop false s m l r = ap₂ (over dropped false) (drop-twice l) (drop-twice r)
 
 pub drop-held : (t : Tree) (m : Mem) → drop (held t m) ≡ gone t
 unfolding held leafed noded gone
@@ -128,13 +118,6 @@ drop-fresh (leaf i r c code) = refl
 drop-fresh (trivial i) = refl
 drop-fresh (unsatisfiable i) = refl
 drop-fresh (node w j i l r) = ap₂ (over dropped false) (drop-fresh l) (drop-fresh r)
-
-pub status-fresh : (t : Tree) → status (fresh t) ≡ running
-unfolding fresh status
-status-fresh (leaf i r c code) = refl
-status-fresh (trivial i) = refl
-status-fresh (unsatisfiable i) = refl
-status-fresh (node w j i l r) = refl
 
 -- a decided node, whatever lies beneath
 pub noded-over : (s : Status) (m : Bool) (l r : State) → isRunning s ≡ false → noded s m l r ≡ over s false (drop l) (drop r)
@@ -223,7 +206,7 @@ left-fresh j rs right l m ph ph′ s = on (isAsked (regulated l) ph (held l m)) 
     on : (b : Bool) → isAsked (regulated l) ph (held l m) ≡ b
         → feedRun j rs right (held l m) (ranOf l ph (held l m)) s (ends j rs right ph′) ≡ feedRun j rs right (fresh l) (ranOf l ph (held l m)) s (ends j rs right ph′)
     on true e =
-        feed-left (held l m) (fresh l) (held-status l m ∙ is-running (m (numberOf l) .status) (asked-running (regulated l) ph l m e) ∙ sym (status-fresh l))
+        feed-left (held l m) (fresh l) (held-status l m ∙ is-running (m (numberOf l) .status) (asked-running (regulated l) ph l m e) ∙ sym (fresh-runs l))
         (drop-held l m ∙ sym (drop-fresh l)) j rs right (ranOf l ph (held l m)) s (ends j rs right ph′)
     on false e = rw (idle l ph (held l m) e)
 

@@ -12,7 +12,7 @@ use Rattle.turns.specs.Saved.{cellPlace, statusAt, offsetAt, counterAt}
 use Rattle.memory.specs.declared.cells.Cell.{Cell}
 use Rattle.memory.specs.Memory as memory
 use Rattle.memory.specs.Memory.{view, markAt}
-use Rattle.memory.specs.Cells.{celled, placedAt, spareAt, Wrote}
+use Rattle.memory.specs.Cells.{celled, placedAt, spareAt, CellWritten}
 use Rattle.memory.proofs.Stores.{number-above, number-below, number-here, Around, around-none, around-set, number-four}
 
 -- the fields of a cell, read byte by byte
@@ -164,7 +164,7 @@ module _ (bs ws : Bytes) (i : ℕ) (x : Cell) (room : length bs ≡ 248) (place 
   unfolding s1 s2
   s2-mark = number-here s1 (8 * i + 2) (x .mark) (rw length-set (omega arith))
 
-  pub wrote-cell : Wrote i (celled x (view bs ws i .offset) (view bs ws i .counter)) bs ws
+  pub wrote-cell : CellWritten i (celled x (view bs ws i .offset) (view bs ws i .counter)) bs ws
       (set (set bs (8 * i) (x .status)) (8 * i + 2) (x .mark)) (worked ws i x)
   unfolding s1 s2 celled view statusAt markAt offsetAt counterAt cellPlace spareAt
   wrote-cell =
@@ -279,7 +279,7 @@ module _ (bs : Bytes) (i o c : ℕ) (room : length bs ≡ 248) (inside : i < 31)
           let v = ltb-false i k q in
           p2-four .under (8 * k + 3) 1 (omega arith) ∙ number-above bs (8 * i + 1) o (8 * k + 3) 1 (omega arith)
 
-  pub wrote-place : (ws : Bytes) → Wrote i (placedAt (view bs ws i) o c) bs ws
+  pub wrote-place : (ws : Bytes) → CellWritten i (placedAt (view bs ws i) o c) bs ws
       (four (set bs (8 * i + 1) o) (8 * i + 4) (c / 16777216) (c / 65536 % 256) (c / 256 % 256) (c % 256)) ws
   unfolding p1 p2 placedAt view statusAt markAt offsetAt counterAt cellPlace spareAt
   wrote-place ws = record {
@@ -291,8 +291,8 @@ module _ (bs : Bytes) (i o c : ℕ) (room : length bs ≡ 248) (inside : i < 31)
 
 -- a cell and then its place: the whole of it
 pub wrote-whole : (o c : ℕ) (x : Cell) {i : ℕ} {bs ws bs′ bs″ ws′ : Bytes}
-    → Wrote i (celled x (view bs ws i .offset) (view bs ws i .counter)) bs ws bs′ ws′ → Wrote i (placedAt (view bs′ ws′ i) o c) bs′ ws′ bs″ ws′
-    → Wrote i (celled x o c) bs ws bs″ ws′
+    → CellWritten i (celled x (view bs ws i .offset) (view bs ws i .counter)) bs ws bs′ ws′ → CellWritten i (placedAt (view bs′ ws′ i) o c) bs′ ws′ bs″ ws′
+    → CellWritten i (celled x o c) bs ws bs″ ws′
 unfolding celled placedAt
 wrote-whole o c x f g = record {
   here = g .here ∙ ap (λ (y : memory.Cell). placedAt y o c) (f .here);

@@ -6,7 +6,7 @@ use mathlib.Core.Bool.{Bool, true, false, _&&_, _||_, not}
 use mathlib.Core.List.{List, _∷_}
 use lib.ListN.{length}
 use Rattle.actions.specs.Sets.{Action, ActionSet, has}
-use Rattle.actions.proofs.Tests.{yes-of, of-yes, and-left, and-right, true-not-false}
+use Rattle.actions.proofs.Tests.{true-not-false, and-first, and-second}
 use Rattle.policy.specs.Tree.{Way, parallel, sequential, Join, and, or, Tree, node, numberOf, regulated}
 use Rattle.rules.specs.Lawful.{holds, Numbered}
 use Rattle.turns.specs.Status.{Status, running, isRunning, isHalted, joined}
@@ -21,15 +21,10 @@ use Rattle.memory.specs.Run.{Run, halts, andThen, insert, done, more, cu
 use Rattle.memory.specs.Memory.{Cell, Mem, held, ranOf, parRight, parLeft, own, ends, atLeft, atFedBefore, atFedAfter, atFirst, staged, rest}
 use Rattle.memory.specs.Promises.{Kept, KeptBut, Wrote, Handed, Settled, Led, Gives, Went, Begun, Feeds, Was, FedOn, emits, goesOn, endSup, ahead}
 use Rattle.memory.proofs.Runs.{more-none, more-more, more-insert, more-done, then-insert, then-done, feed-given, feed-out, feed-done, maybe-yes, maybe-no, unless-running, unless-decided, inserts-on, ahead-more, then-ahead, feed-ahead}
-use Rattle.memory.proofs.Begin.{held-status, asked-in, askedIn, drop-held, drop-fresh, status-fresh, noded-over, idle, left-fresh, begins-parallel, begins-before, begins-closing, begins-after}
+use Rattle.memory.proofs.Begin.{held-status, asked-in, askedIn, drop-held, drop-fresh, noded-over, idle, left-fresh, begins-parallel, begins-before, begins-closing, begins-after}
 use Rattle.memory.proofs.Frames.{own-number, outside, outside-left, outside-right, held-apart, rest-same, to-begin, handed-held, handed-other, handed-rest, handed-kept}
 use Rattle.memory.proofs.Frames.{not-right-of-left, not-left-of-right, own-l, held-r, own-r, held-l, rest-l, held-l-own, held-r-own, rest-l-own}
-
-and-first : (p q : Bool) → p && q ≡ true → p ≡ true
-and-first p q e = yes-of p (and-left p q (of-yes (p && q) e))
-
-and-second : (p q : Bool) → p && q ≡ true → q ≡ true
-and-second p q e = yes-of q (and-right p q (of-yes (p && q) e))
+use Rattle.turns.proofs.Walk.{fresh-runs}
 
 -- ---- one after another
 
@@ -473,7 +468,7 @@ module _ (j : Join) {n a b : ℕ} {l r : Tree} (sd : Numbered n l r) (ea : numbe
       after-ended = ap cut (seq-3 m e) ∙ then-done (rest r m) _ (w .gives)
 
       waits : joined j (status (fresh l)) (status (held r m′)) ≡ joined j running (m′ b .status)
-      waits = ap₂ (joined j) (status-fresh l) (status-r m′)
+      waits = ap₂ (joined j) (fresh-runs l) (status-r m′)
 
       pub after-decided : {m″ : Mem} {mark : Bool} → isRunning (joined j running (m′ b .status)) ≡ false → Settled n (joined j running (m′ b .status)) mark m′ m″
           → Was (node sequential j n l r) r m m″ k (Over false)

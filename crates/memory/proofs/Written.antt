@@ -19,9 +19,9 @@ use Rattle.memory.specs.Promises.{afresh, Handed, Settled, Told, joinedI
 
 pub handed-by : {n k : ℕ} (x old : code.Cell) (p a : ℕ) {bs ws bs₁ ws₁ bs₂ ws₂ : Bytes} → (n ≡ k → ⊥)
     → celled old (view bs ws k .offset) (view bs ws k .counter) ≡ view bs ws k
-    → cells.Wrote k (celled (record { stage = 0; phase = p; action = a; fed = old .fed; sup = old .sup; status = old .status; mark = old .mark })
+    → cells.CellWritten k (celled (record { stage = 0; phase = p; action = a; fed = old .fed; sup = old .sup; status = old .status; mark = old .mark })
     (view bs ws k .offset) (view bs ws k .counter)) bs ws bs₁ ws₁
-    → cells.Wrote n (celled x (view bs₁ ws₁ n .offset) (view bs₁ ws₁ n .counter)) bs₁ ws₁ bs₂ ws₂
+    → cells.CellWritten n (celled x (view bs₁ ws₁ n .offset) (view bs₁ ws₁ n .counter)) bs₁ ws₁ bs₂ ws₂
     → Handed n (celled x (view bs ws n .offset) (view bs ws n .counter)) k (phaseOf p a) (view bs ws) (view bs₂ ws₂)
 unfolding celled
 handed-by {n} {k} x old p a {bs} {ws} ne g u v = record {
@@ -93,7 +93,7 @@ sup-byte false = refl
 
 -- a status that was written, with the mark that the phase gives
 pub settled-by : (x y : code.Cell) (n : ℕ) {bs ws bs′ ws′ : Bytes} (s : Status) → Reads y n (view bs ws)
-    → cells.Wrote n (celled x (view bs ws n .offset) (view bs ws n .counter)) bs ws bs′ ws′
+    → cells.CellWritten n (celled x (view bs ws n .offset) (view bs ws n .counter)) bs ws bs′ ws′
     → statusOf (x .status) ≡ s → ((a : ℕ) → eqb (x .mark) 1 ≡ stillAsked (phaseOf (y .phase) a))
     → Settled n s (stillAsked (view bs ws n .ph)) (view bs ws) (view bs′ ws′)
 unfolding celled
@@ -103,18 +103,18 @@ settled-by x y n {bs} {ws} s e w es em = record {
   others = w .others;
 }
 
-pub wrote-status : (x : code.Cell) (n : ℕ) {bs ws bs′ ws′ : Bytes} → cells.Wrote n (celled x (view bs ws n .offset) (view bs ws n .counter)) bs ws bs′ ws′
+pub wrote-status : (x : code.Cell) (n : ℕ) {bs ws bs′ ws′ : Bytes} → cells.CellWritten n (celled x (view bs ws n .offset) (view bs ws n .counter)) bs ws bs′ ws′
     → statusOf (x .status) ≡ view bs′ ws′ n .status
 unfolding celled
 wrote-status x n w = sym (ap (λ (z : Cell). z .status) (w .here))
 
-pub wrote-stage : (x : code.Cell) (n : ℕ) {bs ws bs′ ws′ : Bytes} → cells.Wrote n (celled x (view bs ws n .offset) (view bs ws n .counter)) bs ws bs′ ws′
+pub wrote-stage : (x : code.Cell) (n : ℕ) {bs ws bs′ ws′ : Bytes} → cells.CellWritten n (celled x (view bs ws n .offset) (view bs ws n .counter)) bs ws bs′ ws′
     → view bs′ ws′ n .stage ≡ x .stage
 unfolding celled
 wrote-stage x n w = ap (λ (z : Cell). z .stage) (w .here)
 
 pub wrote-phase : (x y : code.Cell) (n : ℕ) {bs ws bs′ ws′ : Bytes} → Reads y n (view bs ws)
-    → cells.Wrote n (celled x (view bs ws n .offset) (view bs ws n .counter)) bs ws bs′ ws′ → x .phase ≡ y .phase → x .action ≡ y .action
+    → cells.CellWritten n (celled x (view bs ws n .offset) (view bs ws n .counter)) bs ws bs′ ws′ → x .phase ≡ y .phase → x .action ≡ y .action
     → view bs′ ws′ n .ph ≡ view bs ws n .ph
 unfolding celled
 wrote-phase x y n {bs} {ws} e w ep ea = ap (λ (z : Cell). z .ph) (w .here) ∙ ap₂ phaseOf ep ea ∙ read-phase y n (view bs ws) e

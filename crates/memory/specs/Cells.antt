@@ -41,7 +41,7 @@ spareAt bs i = number bs (cellPlace i + 3) 1
 
 -- The cell y was written at node i, in the state's bytes bs and the working bytes ws, and no other cell changed. Nor did any spare
 -- byte, nor any byte of the state from the next record on.
-pub record Wrote (i : ℕ) (y : memory.Cell) (bs ws bs′ ws′ : Bytes) : Type 0 where
+pub record CellWritten (i : ℕ) (y : memory.Cell) (bs ws bs′ ws′ : Bytes) : Type 0 where
   pub here : memory.view bs′ ws′ i ≡ y
   pub others : (k : ℕ) → (k ≡ i → ⊥) → memory.view bs′ ws′ k ≡ memory.view bs ws k
   pub spares : (k : ℕ) → spareAt bs′ k ≡ spareAt bs k

@@ -6,7 +6,7 @@ ghost use lib.ListN.{length};
 ghost use Rattle.policy.specs.Bytes.{Bytes};
 ghost use Rattle.turns.specs.Saved.{offsetAt, counterAt};
 ghost use Rattle.memory.specs.Memory.{view};
-ghost use Rattle.memory.specs.Cells.{celled, placedAt, Wrote};
+ghost use Rattle.memory.specs.Cells.{celled, placedAt, CellWritten};
 use reading::byte;
 use reading::word32;
 
@@ -44,7 +44,7 @@ pub fn get(state: &[u8], work: &[u8], node: usize) -> Cell
 
 pub fn put(state: &mut [u8], work: &mut [u8], node: usize, cell: Cell)
     requires { ⌜ (length (now state) ≡ 248) × ((length (now work) ≡ 155) × (node < 31)) ⌝ }
-    ensures { λ _. ⌜ Wrote node (celled cell (view (now (state .entry)) (now (work .entry)) node .offset) (view (now (state .entry)) (now (work .entry)) node .counter))
+    ensures { λ _. ⌜ CellWritten node (celled cell (view (now (state .entry)) (now (work .entry)) node .offset) (view (now (state .entry)) (now (work .entry)) node .counter))
         (now (state .entry)) (now (work .entry)) (now (state .exit)) (now (work .exit)) ⌝ }
 {
     work[5 * node] = cell.stage;
@@ -68,7 +68,7 @@ pub fn leaf_place(state: &[u8], node: usize) -> Place
 
 pub fn put_leaf(state: &mut [u8], node: usize, offset: u8, counter: u64)
     requires { ⌜ (length (now state) ≡ 248) × ((node < 31) × (counter < 4294967296)) ⌝ }
-    ensures { λ _. ⌜ ((ws : Bytes) → Wrote node (placedAt (view (now (state .entry)) ws node) offset counter) (now (state .entry)) ws (now (state .exit)) ws) ⌝ }
+    ensures { λ _. ⌜ ((ws : Bytes) → CellWritten node (placedAt (view (now (state .entry)) ws node) offset counter) (now (state .entry)) ws (now (state .exit)) ws) ⌝ }
 {
     let at = 8 * node + 4;
     state[8 * node + 1] = offset;
@@ -81,7 +81,7 @@ pub fn put_leaf(state: &mut [u8], node: usize, offset: u8, counter: u64)
 // The whole cell of a leaf.
 pub fn put_whole(state: &mut [u8], work: &mut [u8], node: usize, cell: Cell, place: Place)
     requires { ⌜ (length (now state) ≡ 248) × ((length (now work) ≡ 155) × ((node < 31) × (place .counter < 4294967296))) ⌝ }
-    ensures { λ _. ⌜ Wrote node (celled cell (place .offset) (place .counter)) (now (state .entry)) (now (work .entry)) (now (state .exit)) (now (work .exit)) ⌝ }
+    ensures { λ _. ⌜ CellWritten node (celled cell (place .offset) (place .counter)) (now (state .entry)) (now (work .entry)) (now (state .exit)) (now (work .exit)) ⌝ }
 {
     put(state, work, node, cell);
     put_leaf(state, node, place.offset, place.counter);

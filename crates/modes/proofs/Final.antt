@@ -17,10 +17,10 @@ use Rattle.policy.specs.Steps.{Step, next, ok, sup, ins, acase, spend, end, hal
 use Rattle.policy.proofs.ListLaws.{everyAt-rest, everyAt-over}
 use Rattle.reading.specs.Code.{codeAt}
 use Rattle.rules.specs.Targets.{targetsFit}
-use Rattle.rules.specs.Modes.{Mode, idle, pending, closing, isIdle, isPending, isClosing, sameMode, stands, Mark, leads, marked, reachedBy, leadsIf, walked}
+use Rattle.rules.specs.Modes.{Mode, idle, pending, closing, isIdle, isPending, isClosing, sameMode, stands, Mark, leads, marked, reachedBy, leadsIf, walked, stepped}
 use Rattle.rules.specs.Modes.{marks, modeFits, modesFit}
 use Rattle.rules.proofs.Ahead.{Suffix, suffix-head, suffix-tail, never-back}
-use Rattle.modes.specs.Marks.{MarkedHere, stepped, othersFit, nextsFit}
+use Rattle.modes.specs.Marks.{MarkedHere, othersFit, nextsFit}
 
 -- ---- marks elsewhere
 

@@ -5,7 +5,7 @@ use mathlib.Core.Path.{_≡_, refl, sym, ap, _∙_, subst}
 use mathlib.Core.Bool.{Bool, true, false, _&&_, _||_}
 use mathlib.Core.List.{List, [], _∷_, _++_}
 use lib.Bits.{bitOr, or-zero-r}
-use lib.Dec.{T, eqb, eqb→eq, lit≤}
+use lib.Dec.{T, eqb, eqb→eq}
 use lib.ListN.{length, getD, set, replicate, length-set, length-replicate, getD-replicate}
 use lib.Seq.{getD-set-same, getD-set-other, set-getD}
 use borrow.Author.Tests.{eq-eqb}
@@ -15,6 +15,7 @@ use Rattle.policy.specs.Lists.{one}
 use Rattle.rules.specs.Modes.{Mode, idle, pending, closing, isIdle, isPending, isClosing, sameMode, Mark, marked}
 use Rattle.modes.specs.Table.{modeNumber, reaching}
 use Rattle.modes.specs.Marks.{Agrees, Adds, onlyIf, MarkedHere}
+use Rattle.policy.proofs.ListLaws.{one-most}
 
 -- before the first store nothing is marked
 pub none-marked : Agrees (replicate 192 0) []
@@ -107,12 +108,7 @@ read-here bs o ks h g =
     let z : o ≡ 0 + o = omega arith in
     record { idly = ap (λ (i : ℕ). getD bs i 0) z ∙ g .at idle o h; pendingly = g .at pending o h; closingly = g .at closing o h }
 
-one-small : (b : Bool) → one b ≤ 1
-unfolding one
-one-small true = lit≤ tt
-one-small false = lit≤ tt
-
 pub here-small : (i p c o : ℕ) (ks : List Mark) → MarkedHere i p c o ks → (i ≤ 1) × (p ≤ 1) × (c ≤ 1)
 here-small i p c o ks h =
-    let x = one-small (marked idle o ks) in let y = one-small (marked pending o ks) in let z = one-small (marked closing o ks) in
+    let x = one-most (marked idle o ks) in let y = one-most (marked pending o ks) in let z = one-most (marked closing o ks) in
     (subst (λ (n : ℕ). n ≤ 1) (sym (h .idly)) x, subst (λ (n : ℕ). n ≤ 1) (sym (h .pendingly)) y, subst (λ (n : ℕ). n ≤ 1) (sym (h .closingly)) z)

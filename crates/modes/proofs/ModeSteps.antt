@@ -11,9 +11,9 @@ use Rattle.actions.proofs.Tests.{and-intro, and-left, and-right}
 use Rattle.policy.specs.Bytes.{Bytes}
 use Rattle.policy.specs.Lists.{one, every}
 use Rattle.policy.specs.Steps.{Step, next, ok, sup, ins, acase, spend, end, halt, targets, isNext}
-use Rattle.rules.specs.Modes.{Mode, idle, pending, closing, isIdle, Mark, leads, marked, reachedBy, leadsIf, modeFits}
+use Rattle.rules.specs.Modes.{Mode, idle, pending, closing, isIdle, Mark, leads, marked, reachedBy, leadsIf, modeFits, stepped}
 use Rattle.modes.specs.Table.{modeNumber, entryAt, reaching, ledBy, mayStand, Tells}
-use Rattle.modes.specs.Marks.{Agrees, Adds, roomFor, onlyIf, MarkedHere, fitsIn, stepped, Led}
+use Rattle.modes.specs.Marks.{Agrees, Adds, roomFor, onlyIf, MarkedHere, fitsIn, Led}
 
 -- ---- room for the marks
 

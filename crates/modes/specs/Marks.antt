@@ -8,7 +8,7 @@ use lib.ListN.{length, getD}
 use Rattle.policy.specs.Bytes.{Bytes}
 use Rattle.policy.specs.Lists.{one, every, everyAt}
 use Rattle.policy.specs.Steps.{Step, isNext}
-use Rattle.rules.specs.Modes.{Mode, idle, pending, closing, Mark, marked, reachedBy, leadsIf, marks, modeFits}
+use Rattle.rules.specs.Modes.{Mode, idle, pending, closing, Mark, marked, stepped, marks, modeFits}
 use Rattle.modes.specs.Table.{modeNumber, mayStand}
 
 -- 64 offsets in each of three modes
@@ -47,11 +47,6 @@ pub record MarkedHere (i p c o : ℕ) (ks : List Mark) : Type 0 where
 -- By a kind's entries in the three modes and the bytes of an offset: the step is reached in one mode, and may stand there.
 unfoldable pub fitsIn : (idle pending closing i p c : ℕ) → Bool
 fitsIn e f g i p c = ((eqb (i + p + c) 1 && (eqb i 0 || mayStand e)) && (eqb p 0 || mayStand f)) && (eqb c 0 || mayStand g)
-
--- the marks after the step at o
-unfoldable pub stepped : ℕ → Step → List Mark → List Mark
-stepped o s ks =
-    leadsIf (reachedBy ks idle o s) s idle ++ (leadsIf (reachedBy ks pending o s) s pending ++ (leadsIf (reachedBy ks closing o s) s closing ++ ks))
 
 -- What the walk has of the step at o, by the marks before it: the marks after it, and its test, which is not made of a next.
 pub record Led (o : ℕ) (s : Step) (ks : List Mark) (fits : Bool) (after : Bytes) : Type 0 where

@@ -4,11 +4,12 @@ use native.Mathlib.Omega.{arith}
 use mathlib.Core.Path.{_≡_, refl, sym, _∙_, ap, ap₂, subst}
 use mathlib.Core.Logic.{_⊎_, inl, inr}
 use mathlib.Core.Bool.{Bool, true, false}
-use mathlib.Core.List.{List, [], _∷_, _++_, append-assoc, append-nil}
+use mathlib.Core.List.{List, [], _∷_, _++_, append-nil}
 use lib.ListN.{length, length-append}
 use Rattle.turns.specs.Process.{Item, ran, lets, sups, accepts, suppresses, Trace, none, one, two, items}
 use Rattle.turns.specs.Events.{Event, eventOf, events, stepsRun}
 use Rattle.orders.specs.Orders.{Mixed, nil, fromLeft, fromRight, Formed, formed-none, formed-one, formed-two, Told, told-none, told-one, told-two, only}
+use Rattle.turns.proofs.Count.{events-append}
 
 -- ---- interleavings
 
@@ -56,11 +57,6 @@ pub same-steps : {t : Trace} {xs : List Item} → Formed t xs → stepsRun xs �
 same-steps f = same-count stepsRun steps-add f
 
 -- ---- the events
-
-events-append : (xs ys : List Item) → events (xs ++ ys) ≡ events xs ++ events ys
-unfolding events
-events-append [] ys = refl
-events-append (x ∷ xs) ys = ap (λ (l : List Event). eventOf x ++ l) (events-append xs ys) ∙ sym (append-assoc (eventOf x) (events xs) (events ys))
 
 events-add : (xs ys : List Item) → length (events (xs ++ ys)) ≡ length (events xs) + length (events ys)
 events-add xs ys = ap (λ (l : List Event). length l) (events-append xs ys) ∙ length-append (events xs) (events ys)

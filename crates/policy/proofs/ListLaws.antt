@@ -3,12 +3,12 @@ use Prim.Native.Nat.{ℕ, zero, suc, _+_, _-_, _<_, _≤_}
 use native.Mathlib.Nat.{le-of-suc-le-suc, not-suc-le-zero}
 use native.Mathlib.Omega.{arith}
 use mathlib.Core.Path.{_≡_, refl, ap, _∙_, subst}
-use mathlib.Core.Bool.{Bool, true, _&&_}
-use mathlib.Core.List.{List, [], _∷_}
+use mathlib.Core.Bool.{Bool, true, false, _&&_}
+use mathlib.Core.List.{List, [], _∷_, map}
 use lib.Dec.{T}
 use lib.ListN.{length, getD, take, drop}
 use Rattle.actions.proofs.Tests.{and-intro, and-left, and-right}
-use Rattle.policy.specs.Lists.{listed, every, everyAt}
+use Rattle.policy.specs.Lists.{listed, one, every, everyAt}
 
 module _ {A : Type 0} where
   pub listed-length : (f : ℕ → A) (i n : ℕ) → length (listed f i n) ≡ n
@@ -86,3 +86,19 @@ module _ {A : Type 0} where
   pub everyAt-over : (g : ℕ → A → Bool) (f : ℕ → A) (i n : ℕ) → n ≤ i → everyAt g i (listed f i (n - i)) ≡ true
   unfolding everyAt
   everyAt-over g f i n h = ap (λ (l : List A). everyAt g i l) (listed-over f i n h)
+
+pub map-listed : {A B : Type 0} (g : A → B) (f : ℕ → A) (i n : ℕ) → map g (listed f i n) ≡ listed (λ k. g (f k)) i n
+unfolding listed
+map-listed g f i zero = refl
+map-listed g f i (suc n) = ap (λ (l : List _). g (f i) ∷ l) (map-listed g f (suc i) n)
+
+pub all-zero : (m i k : ℕ) → getD (listed {A = ℕ} (λ j. 0) i m) k 0 ≡ 0
+unfolding listed
+all-zero zero i k = refl
+all-zero (suc m) i zero = refl
+all-zero (suc m) i (suc k) = all-zero m (suc i) k
+
+pub one-most : (b : Bool) → one b ≤ 1
+unfolding one
+one-most true = omega arith
+one-most false = omega arith

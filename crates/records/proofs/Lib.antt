@@ -1,3 +1,2 @@
 pub mod Frame
 mod Fields
-pub mod Counted

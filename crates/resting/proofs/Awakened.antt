@@ -23,7 +23,7 @@ use Rattle.turns.specs.State.{State, over, noded}
 use Rattle.turns.specs.Turn.{fresh}
 use Rattle.turns.proofs.Cells.{Below, below-here, below-left, below-right}
 use Rattle.memory.specs.Memory.{Cell, Mem, view, leafed, held}
-use Rattle.memory.specs.Cells.{Wrote}
+use Rattle.memory.specs.Cells.{CellWritten}
 use Rattle.resting.specs.Awaken.{unopened, Unopened, AllUnopened}
 
 -- ---- from the cells to the state
@@ -56,9 +56,9 @@ held-fresh file ok m all = held-each file m all (tree file) (starts file m all) 
 
 -- the start as the code reads it
 pub woken-here : (file : Bytes) {i p c : ℕ} {bs ws bs′ ws′ : Bytes} → p ≡ nodePlace i → c ≡ nodeAt file p .start
-    → Wrote i (unopened c) bs ws bs′ ws′ → Wrote i (unopened (nodeAt file (nodePlace i) .start)) bs ws bs′ ws′
+    → CellWritten i (unopened c) bs ws bs′ ws′ → CellWritten i (unopened (nodeAt file (nodePlace i) .start)) bs ws bs′ ws′
 woken-here file {i} {bs = bs} {ws = ws} {bs′ = bs′} {ws′ = ws′} e f w =
-    subst (λ (n : ℕ). Wrote i (unopened n) bs ws bs′ ws′) (f ∙ ap (λ (p : ℕ). nodeAt file p .start) e) w
+    subst (λ (n : ℕ). CellWritten i (unopened n) bs ws bs′ ws′) (f ∙ ap (λ (p : ℕ). nodeAt file p .start) e) w
 
 -- the nodes below i are not yet opened
 pub record Woken (file : Bytes) (n : ℕ) (bs₀ ws₀ bs ws : Bytes) (i : ℕ) : Type 0 where
@@ -71,7 +71,7 @@ pub woken-none : (file : Bytes) (n : ℕ) (bs ws : Bytes) → Woken file n bs ws
 woken-none file n bs ws = record { below = omega arith; state = refl; work = refl; cells = λ k h. absurd (omega arith) }
 
 pub woken-more : {file : Bytes} {n i : ℕ} {bs₀ ws₀ bs ws bs′ ws′ : Bytes} → Woken file n bs₀ ws₀ bs ws i → i < n → length bs′ ≡ length bs → length ws′ ≡ length ws
-    → Wrote i (unopened (nodeAt file (nodePlace i) .start)) bs ws bs′ ws′ → Woken file n bs₀ ws₀ bs′ ws′ (i + 1)
+    → CellWritten i (unopened (nodeAt file (nodePlace i) .start)) bs ws bs′ ws′ → Woken file n bs₀ ws₀ bs′ ws′ (i + 1)
 unfolding Unopened
 woken-more {file} {n} {i} {bs′ = bs′} {ws′ = ws′} g l a b w = record {
   below = omega arith;

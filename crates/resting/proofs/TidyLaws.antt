@@ -13,7 +13,7 @@ use borrow.Author.Tests.{eq-eqb, ne-eqb}
 use Rattle.policy.specs.Bytes.{Bytes, spell, put}
 use Rattle.policy.proofs.ByteLaws.{put-sets}
 use Rattle.turns.specs.Status.{Status, running, ended, endedLeft, endedRight, halted, dropped, statusNumber, statusOf, isRunning}
-use Rattle.turns.specs.State.{State, at, over, status, offset, counter, leftOf, rightOf, leafOver, drop, noded}
+use Rattle.turns.specs.State.{State, over, status, offset, counter, leftOf, rightOf, leafOver, drop, noded}
 use Rattle.turns.specs.Saved.{stateSize, cellPlace, statusAt, offsetAt, counterAt, cell, store, saved}
 use Rattle.policy.specs.Records.{nodeCount, nodePlace, nodeAt}
 use Rattle.policy.specs.Tree.{nodeKind, Tree, node, tree}
@@ -29,6 +29,7 @@ use Rattle.reading.specs.declared.Join as joins
 use Rattle.memory.specs.Memory.{view, markAt, leafed, held}
 use Rattle.resting.specs.Tidy.{stands, droppedIf, leafCell}
 use Rattle.tables.proofs.FileNodes.{tree-read}
+use Rattle.memory.proofs.Begin.{drop-twice}
 
 -- ---- the number of a status
 
@@ -132,11 +133,6 @@ bare-leaf s = go (eqb s 1)
 
 pub bare-cell : (g : Bool) (s : Status) (m : Bool) → cell (droppedIf g (leafed s m 0 0)) ≡ statusNumber (stands g s) ∷ 0 ∷ 0 ∷ 0 ∷ spell 4 0
 bare-cell g s m = leaf-cell g s m 0 0 ∙ bare-leaf (statusNumber (stands g s))
-
-drop-twice : (s : State) → drop (drop s) ≡ drop s
-unfolding drop leafOver
-drop-twice (at s m o c) = refl
-drop-twice (over s m l r) = ap₂ (λ (x y : State). over dropped false x y) (drop-twice l) (drop-twice r)
 
 drop-noded : (s : Status) (m : Bool) (a b : State) → drop (noded s m a b) ≡ over dropped false (drop a) (drop b)
 unfolding noded drop isRunning

@@ -7,7 +7,7 @@ ghost use Rattle.policy.specs.Tree.{tree};
 ghost use Rattle.rules.specs.Passed.{Passed};
 ghost use Rattle.turns.specs.Turn.{fresh};
 ghost use Rattle.memory.specs.Memory.{view, held};
-ghost use Rattle.memory.specs.Cells.{Wrote};
+ghost use Rattle.memory.specs.Cells.{CellWritten};
 ghost use Rattle.resting.specs.Awaken.{unopened, AllUnopened};
 use memory::cells::Cell;
 use memory::cells::Place;
@@ -30,7 +30,7 @@ const UNOPENED: Cell = Cell {
 fn awaken_node(policy: &[u8], node: usize, state: &mut [u8], work: &mut [u8])
     requires { ⌜ Passed (now policy) × (node < nodeCount (now policy)) ⌝ }
     requires { ⌜ (length (now state) ≡ 248) × (length (now work) ≡ 155) ⌝ }
-    ensures { λ _. ⌜ Wrote node (unopened (nodeAt (now (policy .entry)) (nodePlace node) .start)) (now (state .entry)) (now (work .entry)) (now (state .exit)) (now (work .exit)) ⌝ }
+    ensures { λ _. ⌜ CellWritten node (unopened (nodeAt (now (policy .entry)) (nodePlace node) .start)) (now (state .entry)) (now (work .entry)) (now (state .exit)) (now (work .exit)) ⌝ }
 {
     let counter = node_start(policy, node_place(node));
     put_whole(state, work, node, UNOPENED, Place { offset: 0, counter });

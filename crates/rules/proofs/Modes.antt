@@ -14,7 +14,7 @@ use Rattle.actions.proofs.Tests.{and-intro, and-left, and-right, or-left, or-ri
 use Rattle.policy.specs.Steps.{Step, next, ok, sup, ins, acase, spend, end, halt, targets, isNext}
 use Rattle.rules.specs.Targets.{targetsFit}
 use Rattle.rules.specs.Modes.{Mode, idle, pending, closing, isIdle, isPending, isClosing, sameMode, Mark, leads, Reached, first, waits, led}
-use Rattle.rules.specs.Modes.{marked, reachedBy, leadsIf, walked, marks}
+use Rattle.rules.specs.Modes.{marked, reachedBy, leadsIf, stepped, walked, marks}
 use Rattle.rules.specs.Lawful.{reachedIn}
 use Rattle.rules.proofs.Ahead.{in-or-out, Suffix, whole, suffix-head, suffix-tail, out-of, never-back}
 
@@ -113,19 +113,17 @@ next-leads (spend a y z) m m′ n = absurd n
 next-leads end m m′ n = absurd n
 next-leads halt m m′ n = absurd n
 
--- what the step at o marks for its being reached in mode m, and the marks after that step
+-- what the step at o marks for its being reached in mode m
 abbrev news : ℕ → Step → List Mark → Mode → List Mark
 news o s ks m = leadsIf (reachedBy ks m o s) s m
 
-abbrev stepped : ℕ → Step → List Mark → List Mark
-stepped o s ks = news o s ks idle ++ (news o s ks pending ++ (news o s ks closing ++ ks))
-
 stepped-keeps : (o : ℕ) (s : Step) (ks : List Mark) (k : Mark) → List·Memᴰ k ks → List·Memᴰ k (stepped o s ks)
+unfolding stepped
 stepped-keeps o s ks k d = Memᴰ·append-right (news o s ks idle) (Memᴰ·append-right (news o s ks pending) (Memᴰ·append-right (news o s ks closing) d))
 
 -- where the step is reached in a mode, what it then leads to is marked
 stepped-led : (o : ℕ) (s : Step) (ks : List Mark) (m : Mode) (k : Mark) → T (reachedBy ks m o s) → List·Memᴰ k (leads s m) → List·Memᴰ k (stepped o s ks)
-unfolding leadsIf
+unfolding stepped leadsIf
 stepped-led o s ks m k h d = by m (if-led (reachedBy ks m o s) h)
   where
     if-led : (b : Bool) → T b → List·Memᴰ k (leadsIf b s m)
@@ -143,7 +141,7 @@ Made o s ks k = (m : Mode) × T (reachedBy ks m o s) × List·Memᴰ k (leads s 
 
 -- and no other mark is new
 stepped-cases : (o : ℕ) (s : Step) (ks : List Mark) (k : Mark) → List·Memᴰ k (stepped o s ks) → Made o s ks k ⊎ List·Memᴰ k ks
-unfolding leadsIf Made
+unfolding stepped leadsIf Made
 stepped-cases o s ks k d = from idle (news o s ks pending ++ (news o s ks closing ++ ks)) (from pending (news o s ks closing ++ ks) (from closing ks (λ u. inr u))) d
   where
     made : (b : Bool) (m : Mode) → reachedBy ks m o s ≡ b → List·Memᴰ k (leadsIf b s m) → Made o s ks k

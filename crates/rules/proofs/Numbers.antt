@@ -15,7 +15,7 @@ use Rattle.policy.specs.Bytes.{Bytes}
 use Rattle.policy.specs.Lists.{one, occurs, everyAt}
 use Rattle.policy.specs.Records.{Node, nodeAt, nodePlace, nodeCount, nodes, rows}
 use Rattle.policy.specs.Steps.{Step, stepOf}
-use Rattle.policy.specs.Tree.{Way, Join, NodeKind, aLeaf, aTrivial, anUnsatisfiable, aPair, noNode, nodeKind, owned, noPlace, placed, places, Tree, leaf, trivial, unsatisfiable, node, grown, treeAt, tree}
+use Rattle.policy.specs.Tree.{Way, Join, NodeKind, aLeaf, aTrivial, anUnsatisfiable, aPair, noNode, nodeKind, owned, noPlace, placed, places, Tree, leaf, trivial, unsatisfiable, node, grown, treeAt, tree, numberOf}
 use Rattle.rules.specs.Children.{later, children, oneParent, broken5}
 use Rattle.rules.specs.Lawful.{holds, Disjoint, Numbered}
 use Rattle.rules.proofs.Grown.{placeIn, nodeIn, kindIn, shaped, shaped-same, grown-suc, grown-is}
@@ -359,3 +359,8 @@ module _ (file : Bytes) (five : broken5 file ≡ false) where
 pub tree-top : (file : Bytes) → tree file ≡ treeAt file 0
 unfolding tree treeAt
 tree-top file = ap (λ (n : ℕ). grown n (places file) 0) (omega arith)
+
+-- a tree carries the number that it was looked up by
+pub number-at : (file : Bytes) (i : ℕ) → numberOf (treeAt file i) ≡ i
+unfolding treeAt numberOf
+number-at file i = grown-is (places file) (λ k t. numberOf t ≡ k) (λ k. refl) (λ k. refl) (λ k e. refl) (λ w j k l r e x y. refl) (nodeCount file - i) i

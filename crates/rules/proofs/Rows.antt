@@ -144,7 +144,7 @@ pub record LeafSteps (x : Node) (code : List Step) : Type 0 where
   pub some : 1 ≤ length code
   pub few : length code ≤ 64
 
-leaf-owned : (x : Node) → nodeKind (x .kind) ≡ aLeaf → owned x ≡ x .count
+pub leaf-owned : (x : Node) → nodeKind (x .kind) ≡ aLeaf → owned x ≡ x .count
 unfolding owned
 leaf-owned x e = rw (e, owned)
 

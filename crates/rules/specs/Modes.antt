@@ -84,13 +84,17 @@ unfoldable pub leadsIf : Bool → Step → Mode → List Mark
 leadsIf true s m = leads s m
 leadsIf false s m = []
 
+-- the marks after the step at o
+unfoldable pub stepped : ℕ → Step → List Mark → List Mark
+stepped o s ks =
+    leadsIf (reachedBy ks idle o s) s idle ++ (leadsIf (reachedBy ks pending o s) s pending ++ (leadsIf (reachedBy ks closing o s) s closing ++ ks))
+
 -- A target that is not later than its step is a next, which counts as reached idle anyway. So one walk through the steps, in order,
 -- finds every mode.
 unfoldable pub walked : ℕ → List Step → List Mark → List Mark
+unfolding stepped
 walked o [] ks = ks
-walked o (s ∷ ss) ks =
-    walked (suc o) ss
-    (leadsIf (reachedBy ks idle o s) s idle ++ (leadsIf (reachedBy ks pending o s) s pending ++ (leadsIf (reachedBy ks closing o s) s closing ++ ks)))
+walked o (s ∷ ss) ks = walked (suc o) ss (stepped o s ks)
 
 unfoldable pub marks : List Step → List Mark
 marks code = walked 0 code (record { mode = idle; offset = 0 } ∷ [])

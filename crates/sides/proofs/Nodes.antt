@@ -1,13 +1,13 @@
 -- A node with two sides in the file: where its sides lie, and the tree that it is. Assumes nothing.
 use Prim.Native.Nat.{ℕ, suc, _-_, _≤_, _<_}
 use native.Mathlib.Omega.{arith}
-use mathlib.Core.Path.{_≡_, refl, sym, ap, ap₂, _∙_, subst}
+use mathlib.Core.Path.{_≡_, sym, ap, ap₂, _∙_, subst}
 use mathlib.Core.List.{List}
 use Rattle.policy.specs.Bytes.{Bytes}
 use Rattle.policy.specs.Records.{Node, nodePlace, rowPlace, nodeAt, nodeCount}
-use Rattle.policy.specs.Tree.{NodeKind, aPair, nodeKind, Place, places, Tree, leaf, trivial, unsatisfiable, node, numberOf, grown}
+use Rattle.policy.specs.Tree.{NodeKind, aPair, nodeKind, Place, places, Tree, leaf, trivial, unsatisfiable, node, grown}
 use Rattle.rules.specs.Lawful.{Numbered}
-use Rattle.rules.proofs.Grown.{kindIn, nodeIn, placeIn, shaped, grown-suc, grown-is}
+use Rattle.rules.proofs.Grown.{kindIn, nodeIn, placeIn, shaped, grown-suc}
 use Rattle.rules.proofs.Numbers.{ChildrenLater, children-later, tree-at, node-in, numbered}
 use Rattle.policy.specs.Tree.{treeAt}
 use Rattle.rules.specs.Passed.{Passed}
@@ -25,10 +25,6 @@ module _ (policy : Bytes) (ok : Passed policy) (i : ℕ) (h : i < nodeCount poli
 
   pub few-nodes : nodeCount policy ≤ 31
   few-nodes = counts-fit policy (ok .kept3) .few-nodes
-
-pub number-at : (policy : Bytes) (i : ℕ) → numberOf (treeAt policy i) ≡ i
-unfolding treeAt numberOf
-number-at policy i = grown-is (places policy) (λ k t. numberOf t ≡ k) (λ k. refl) (λ k. refl) (λ k e. refl) (λ w j k l r e x y. refl) (nodeCount policy - i) i
 
 -- where the sides lie
 pub record Sides (policy : Bytes) (i : ℕ) : Type 0 where

@@ -1,45 +1,12 @@
--- A status as a byte: what each number stands for, and what the code's choices on it are. Assumes nothing.
+-- The code's choices on a status or two. Assumes nothing.
 use Prim.Native.Nat.{ℕ, zero, suc}
 use mathlib.Core.Path.{_≡_, refl, ap}
 use mathlib.Core.Bool.{Bool, true, false, _&&_, _||_, not}
 use Rattle.policy.specs.Tree.{and, or}
-use Rattle.turns.specs.Status.{Status, running, ended, endedLeft, endedRight, halted, isRunning, hasEnded, isHalted, statusOf, joined}
+use Rattle.turns.specs.Status.{Status, running, ended, endedLeft, endedRight, halted, hasEnded, isHalted, joined}
 use Rattle.turns.specs.Turn.{stillAsked}
 use Rattle.memory.specs.Memory.{phaseOf}
 use Rattle.memory.specs.Promises.{emits, goesOn, endSup}
-
-pub not-running : (s : ℕ) → (s ≡ 1 → ⊥) → isRunning (statusOf s) ≡ false
-unfolding isRunning statusOf
-not-running zero f = refl
-not-running (suc zero) f = absurd (f refl)
-not-running (suc (suc zero)) f = refl
-not-running (suc (suc (suc zero))) f = refl
-not-running (suc (suc (suc (suc zero)))) f = refl
-not-running (suc (suc (suc (suc (suc zero))))) f = refl
-not-running (suc (suc (suc (suc (suc (suc zero)))))) f = refl
-not-running (suc (suc (suc (suc (suc (suc (suc n))))))) f = refl
-
-pub not-halted : (s : ℕ) → (s ≡ 5 → ⊥) → isHalted (statusOf s) ≡ false
-unfolding isHalted statusOf
-not-halted zero f = refl
-not-halted (suc zero) f = refl
-not-halted (suc (suc zero)) f = refl
-not-halted (suc (suc (suc zero))) f = refl
-not-halted (suc (suc (suc (suc zero)))) f = refl
-not-halted (suc (suc (suc (suc (suc zero))))) f = absurd (f refl)
-not-halted (suc (suc (suc (suc (suc (suc zero)))))) f = refl
-not-halted (suc (suc (suc (suc (suc (suc (suc n))))))) f = refl
-
-pub not-ended : (s : ℕ) → (s ≡ 2 → ⊥) → (s ≡ 3 → ⊥) → (s ≡ 4 → ⊥) → hasEnded (statusOf s) ≡ false
-unfolding hasEnded statusOf
-not-ended zero f g h = refl
-not-ended (suc zero) f g h = refl
-not-ended (suc (suc zero)) f g h = absurd (f refl)
-not-ended (suc (suc (suc zero))) f g h = absurd (g refl)
-not-ended (suc (suc (suc (suc zero)))) f g h = absurd (h refl)
-not-ended (suc (suc (suc (suc (suc zero))))) f g h = refl
-not-ended (suc (suc (suc (suc (suc (suc zero)))))) f g h = refl
-not-ended (suc (suc (suc (suc (suc (suc (suc n))))))) f g h = refl
 
 -- ---- how two sides join
 

@@ -62,34 +62,19 @@ const HALTED: u8 = 5;
 pub fn is_running(s: u8) -> bool
     ensures { λ r. ⌜ r ≡ isRunning (statusOf s) ⌝ }
 {
-    if s == RUNNING {
-        return true;
-    }
-    false
+    s == RUNNING
 }
 
 pub fn has_ended(s: u8) -> bool
     ensures { λ r. ⌜ r ≡ hasEnded (statusOf s) ⌝ }
 {
-    if s == ENDED {
-        return true;
-    }
-    if s == ENDED_LEFT {
-        return true;
-    }
-    if s == ENDED_RIGHT {
-        return true;
-    }
-    false
+    (ENDED <= s) & (s <= ENDED_RIGHT)
 }
 
 pub fn is_halted(s: u8) -> bool
     ensures { λ r. ⌜ r ≡ isHalted (statusOf s) ⌝ }
 {
-    if s == HALTED {
-        return true;
-    }
-    false
+    s == HALTED
 }
 
 // "And": halted once a side has halted; ended once both have ended.

@@ -23,11 +23,11 @@ use Rattle.rules.proofs.Numbers.{node-in, ChildrenLater, children-later, tree-a
 use Rattle.policy.specs.Tree.{treeAt}
 use Rattle.records.specs.Frame.{Framed}
 use Rattle.surveying.specs.First.{firstStep}
-use Rattle.surveying.specs.Leaves.{insertsOf, Held}
+use Rattle.surveying.specs.Leaves.{insertsIn, Held}
 use Rattle.spreads.specs.Spreads.{cap, capped, cappedBy, cappedNode, Kept}
 use Rattle.reading.proofs.CodeLaws.{code-length}
-use Rattle.records.proofs.Counted.{one-most}
 use Rattle.surveying.proofs.LeafLaws.{leaf-place, sum-is, node-counts}
+use Rattle.policy.proofs.ListLaws.{one-most}
 
 -- ---- numbers
 
@@ -162,7 +162,7 @@ pub record Here (file : Bytes) (n i place ins : ℕ) (caps : List ℕ) : Type 0 
   pub more : (v : ℕ) → v ≡ cappedNode (nodeAt file place) ins caps → KeptFrom file n i (set caps i v)
 
 module _ {file : Bytes} {n m : ℕ} (f : Framed file n m) (four : broken4 file ≡ false) (five : broken5 file ≡ false) (six : broken6 file ≡ false)
-    (held : List ℕ) (counts : Held insertsOf file n held) (i next place : ℕ) (caps : List ℕ) (up : next ≡ i + 1) (h : i < n) (p : place ≡ nodePlace i)
+    (held : List ℕ) (counts : Held insertsIn file n held) (i next place : ℕ) (caps : List ℕ) (up : next ≡ i + 1) (h : i < n) (p : place ≡ nodePlace i)
     (kept : KeptFrom file n next caps) where
   abbrev x : Node
   x = nodeAt file place
@@ -183,7 +183,7 @@ module _ {file : Bytes} {n m : ℕ} (f : Framed file n m) (four : broken4 file �
       omega (arith, ap length e, code-length file (6 + 16 * n + 12 * firstStep file i) (nodeAt file (nodePlace i) .count), node-counts file four i (omega arith) .few)
 
   ins-is : nodeKind (x .kind) ≡ aLeaf → getD held i 0 ≡ insCount steps
-  unfolding insertsOf
+  unfolding insertsIn
   ins-is k = counts .at i h (ap (λ (y : Node). nodeKind (y .kind)) same ∙ k)
 
   -- one step down the tree, in the code's terms

@@ -11,7 +11,7 @@ ghost use Rattle.rules.specs.Children.{broken5};
 ghost use Rattle.rules.specs.Targets.{broken6};
 ghost use Rattle.rules.specs.Spread.{spreadOf, broken10};
 ghost use Rattle.records.specs.Frame.{Framed};
-ghost use Rattle.surveying.specs.Leaves.{insertsOf, Held};
+ghost use Rattle.surveying.specs.Leaves.{insertsIn, Held};
 ghost use Rattle.spreads.specs.Spreads.{cap, cappedNode, Kept};
 use reading::Kind;
 use reading::Way;
@@ -57,7 +57,7 @@ pub fn broken10(policy: &[u8], n: usize, m: usize, inserts: &[u32]) -> bool
     requires { ⌜ broken4 (now policy) ≡ false ⌝ }
     requires { ⌜ broken5 (now policy) ≡ false ⌝ }
     requires { ⌜ broken6 (now policy) ≡ false ⌝ }
-    requires { ⌜ Held insertsOf (now policy) n (now inserts) ⌝ }
+    requires { ⌜ Held insertsIn (now policy) n (now inserts) ⌝ }
     ensures { λ r. ⌜ r ≡ broken10 (now (policy .entry)) ⌝ }
 {
     let mut caps = [0u32; 31];

@@ -47,8 +47,9 @@ use Rattle.memory.proofs.Begin.{askedIn, asked-in, works, asked-works, idle}
 use Rattle.memory.proofs.Frames.{own-number, held-apart}
 use Rattle.memory.proofs.Steps.{begin-parallel, begin-left, begin-first, begun-not, begun-already}
 use Rattle.tables.proofs.FileNodes.{tree-kind, tree-leaf, leaf-room}
-use Rattle.sides.proofs.Nodes.{number-at, tree-is, numbered-here}
+use Rattle.sides.proofs.Nodes.{tree-is, numbered-here}
 use Rattle.memory.proofs.Written.{Reads, read-stage, read-phase, read-status}
+use Rattle.rules.proofs.Numbers.{number-at}
 
 -- whether a node is asked, as the code reads it from the node's cell
 pub asked-read : (y : code.Cell) (n : ℕ) (m : Mem) → Reads y n m → (r : ActionSet)
@@ -267,7 +268,7 @@ module _ (y : code.Cell) (n : ℕ) (bs ws : Bytes) (e : Reads y n (view bs ws)) 
   unfolding rest numberOf regulated
   unsatisfiable-idle f = idle-went (unsatisfiable n) (view bs ws) refl (asked-none ∙ f)
 
-  module _ (f : v ≡ true) (x : code.Cell) (bs′ ws′ : Bytes) (w : cells.Wrote n (celled x (view bs ws n .offset) (view bs ws n .counter)) bs ws bs′ ws′) where
+  module _ (f : v ≡ true) (x : code.Cell) (bs′ ws′ : Bytes) (w : cells.CellWritten n (celled x (view bs ws n .offset) (view bs ws n .counter)) bs ws bs′ ws′) where
     left-over : x .status ≡ 2 → leafed (view bs′ ws′ n .status) (view bs′ ws′ n .asked) 0 0 ≡ leafOver ended
     unfolding celled leafed statusOf isRunning
     left-over es = ap (λ (c : Cell). leafed (c .status) (c .asked) 0 0) (w .here) ∙ ap (λ (s : ℕ). leafed (statusOf s) (eqb (x .mark) 1) 0 0) es

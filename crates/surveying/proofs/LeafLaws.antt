@@ -18,7 +18,7 @@ use Rattle.policy.specs.Lists.{listed, summed, every}
 use Rattle.policy.specs.Records.{Node, nodeAt, rowAt, nodePlace, nodeCount, stepCount, nodes, rows}
 use Rattle.policy.specs.Steps.{Step, halt, stepOf}
 use Rattle.policy.specs.Tree.{NodeKind, aLeaf, aTrivial, anUnsatisfiable, aPair, noNode, nodeKind, owned, Place, noPlace, placed, places}
-use Rattle.policy.proofs.ListLaws.{listed-length, listed-at, every-at}
+use Rattle.policy.proofs.ListLaws.{listed-length, listed-at, every-at, map-listed}
 use Rattle.rules.specs.Layout.{nodeFits, rowFits, broken4}
 use Rattle.rules.specs.Leaves.{everyLeaf}
 use Rattle.rules.proofs.Grown.{placeIn}
@@ -62,11 +62,6 @@ unfolding before summed
 before-all xs zero = omega arith
 before-all [] (suc i) = omega arith
 before-all (x ∷ xs) (suc i) = let e : before xs i ≤ summed (map owned xs) = before-all xs i in omega arith
-
-map-listed : {A B : Type 0} (f : A → B) (g : ℕ → A) (i n : ℕ) → map f (listed g i n) ≡ listed (λ k. f (g k)) i n
-unfolding listed
-map-listed f g i zero = refl
-map-listed f g i (suc n) = ap (λ (l : List _). f (g i) ∷ l) (map-listed f g (suc i) n)
 
 -- ---- rule 4: a node's count is what it owns, at most 64
 

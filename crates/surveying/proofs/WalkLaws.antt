@@ -11,7 +11,7 @@ use borrow.Author.Tests.{eqb-true, eqb-false}
 use types.Run.{OneOf, miss}
 use denote.Enum.Declared.{tagOf}
 use Rattle.actions.specs.Sets.{ActionSet}
-use Rattle.actions.proofs.Tests.{of-yes, true-not-false}
+use Rattle.actions.proofs.Tests.{of-yes, true-not-false, and-assoc, and-true}
 use Rattle.policy.specs.Bytes.{Bytes}
 use Rattle.policy.specs.Lists.{summed}
 use Rattle.policy.specs.Records.{mostNodes, Node, nodeAt, nodePlace, nodeCount, nodes}
@@ -33,14 +33,14 @@ use Rattle.rules.proofs.Numbers.{node-in}
 use Rattle.walking.specs.declared.Walked.{Walked}
 use Rattle.walking.specs.Leaf.{LeafFound}
 use Rattle.surveying.specs.First.{firstStep}
-use Rattle.surveying.specs.Leaves.{nodePasses, modesOf, insertsOf, NodeFound, Held, lowest, LeavesFound}
+use Rattle.surveying.specs.Leaves.{nodePasses, modesOf, insertsIn, NodeFound, Held, lowest, LeavesFound}
 use Rattle.surveying.proofs.LeafLaws.{answerOf, passes-by, leavesFrom, leaves-whole, leaves-over, rest-here, code-is}
 
 -- ---- one node
 
 module _ (w : Walked) (x : Node) (code : List Step) where
   pub leaf-found : (s : ActionSet) → aLeaf ≡ nodeKind (x .kind) → s ≡ x .set → LeafFound w s code → NodeFound w x code
-  unfolding answerOf modesOf insertsOf
+  unfolding answerOf modesOf insertsIn
   leaf-found s k e f =
       let found = subst (λ (r : ActionSet). LeafFound w r code) e f in
       let six : targetsFit (x .set) code ≡ nodePasses targetsFit x code = passes-by targetsFit x code aLeaf k in
@@ -77,14 +77,6 @@ other-found x code q w good six seven = go q
 
 -- ---- node after node
 
-and-assoc : (a b c : Bool) → (a && (b && c)) ≡ ((a && b) && c)
-and-assoc true b c = refl
-and-assoc false b c = refl
-
-and-true : (a : Bool) → (a && true) ≡ a
-and-true true = refl
-and-true false = refl
-
 -- one leaf more
 held-more : (f : ActionSet → List Step → ℕ) (file : Bytes) (i v : ℕ) (xs : List ℕ) → i < mostNodes → Held f file i xs
     → (nodeKind (getD (places file) i noPlace .node .kind) ≡ aLeaf → v ≡ f (getD (places file) i noPlace .node .set) (getD (places file) i noPlace .steps))
@@ -115,7 +107,7 @@ module _ {file : Bytes} {n m : ℕ} (f : Framed file n m) (four : broken4 file �
     pub sevens : Six → everyLeaf modesOf (places file) ≡ (modes && leavesFrom modesOf file i)
     pub eights : Six → everyLeaf allTaken (places file) ≡ (taken && leavesFrom allTaken file i)
     pub effects : Six → Held leafEffects file i effs
-    pub inserts : Six → Held insertsOf file i ins
+    pub inserts : Six → Held insertsIn file i ins
 
   none-held : (g : ActionSet → List Step → ℕ) (xs : List ℕ) → length xs ≡ mostNodes → Held g file 0 xs
   none-held g xs l = record { room = l; at = λ k h. absurd (omega arith) }
@@ -130,7 +122,7 @@ module _ {file : Bytes} {n m : ℕ} (f : Framed file n m) (four : broken4 file �
     sevens = λ six. leaves-whole modesOf file;
     eights = λ six. leaves-whole allTaken file;
     effects = λ six. none-held leafEffects effs l;
-    inserts = λ six. none-held insertsOf ins k;
+    inserts = λ six. none-held insertsIn ins k;
   }
 
   -- the walk through node i, whose record begins at `place`, has given w
@@ -168,7 +160,7 @@ module _ {file : Bytes} {n m : ℕ} (f : Framed file n m) (four : broken4 file �
         eights = λ six. s .eights six ∙ ap (λ (b : Bool). taken && b) (rest allTaken ∙ ap (λ (b : Bool). b && leavesFrom allTaken file (i + 1)) (sym (found .taken here)))
             ∙ and-assoc taken (w .taken) (leavesFrom allTaken file (i + 1));
         effects = λ six. held-more leafEffects file i (w .effects .bits) effs (omega (arith, f .nodes)) (s .effects six) (λ l. found .effects (leaf-here l) here ∙ of-place leafEffects);
-        inserts = λ six. held-more insertsOf file i (w .inserts) ins (omega (arith, f .nodes)) (s .inserts six) (λ l. found .inserts (leaf-here l) here ∙ of-place insertsOf);
+        inserts = λ six. held-more insertsIn file i (w .inserts) ins (omega (arith, f .nodes)) (s .inserts six) (λ l. found .inserts (leaf-here l) here ∙ of-place insertsIn);
       }
 
   -- ---- the end
@@ -225,5 +217,5 @@ module _ {file : Bytes} {n m : ℕ} (f : Framed file n m) (four : broken4 file �
         record {
           is = (let a = sym e in let b = sym g in λ j. lowest false (not (a j)) (not (b j))) ∙ by;
           effects = λ o. subst (λ (j : ℕ). Held leafEffects file j effs) z (s .effects six);
-          inserts = λ o. subst (λ (j : ℕ). Held insertsOf file j ins) z (s .inserts six);
+          inserts = λ o. subst (λ (j : ℕ). Held insertsIn file j ins) z (s .inserts six);
         }

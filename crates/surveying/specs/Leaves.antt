@@ -32,9 +32,9 @@ nodePasses f x code = elim (nodeKind (x .kind)) [
 unfoldable pub modesOf : ActionSet → List Step → Bool
 modesOf r code = modesFit code
 
--- the same number of a leaf
-unfoldable pub insertsOf : ActionSet → List Step → ℕ
-insertsOf r code = insCount code
+-- the number of ins steps of a leaf, which does not ask for its set either
+unfoldable pub insertsIn : ActionSet → List Step → ℕ
+insertsIn r code = insCount code
 
 -- of a node: rule 6, and where that holds rules 7 and 8; of a leaf also its effect set and the number of its ins steps
 pub record NodeFound (w : Walked) (x : Node) (code : List Step) : Type 0 where
@@ -42,7 +42,7 @@ pub record NodeFound (w : Walked) (x : Node) (code : List Step) : Type 0 where
   pub modes : T (nodePasses targetsFit x code) → w .modes ≡ nodePasses modesOf x code
   pub taken : T (nodePasses targetsFit x code) → w .taken ≡ nodePasses allTaken x code
   pub effects : nodeKind (x .kind) ≡ aLeaf → T (nodePasses targetsFit x code) → w .effects .bits ≡ leafEffects (x .set) code
-  pub inserts : nodeKind (x .kind) ≡ aLeaf → T (nodePasses targetsFit x code) → w .inserts ≡ insertsOf (x .set) code
+  pub inserts : nodeKind (x .kind) ≡ aLeaf → T (nodePasses targetsFit x code) → w .inserts ≡ insertsIn (x .set) code
 
 -- a list with room for every node, which holds f of each leaf before node i
 pub record Held (f : ActionSet → List Step → ℕ) (file : Bytes) (i : ℕ) (xs : List ℕ) : Type 0 where
@@ -61,4 +61,4 @@ lowest false false false = 0
 pub record LeavesFound (file : Bytes) (n rule : ℕ) (effs ins : List ℕ) : Type 0 where
   pub is : rule ≡ lowest (not (everyLeaf targetsFit (places file))) (broken7 file) (broken8 file)
   pub effects : rule ≡ 0 → Held leafEffects file n effs
-  pub inserts : rule ≡ 0 → Held insertsOf file n ins
+  pub inserts : rule ≡ 0 → Held insertsIn file n ins

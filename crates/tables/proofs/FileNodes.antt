@@ -21,7 +21,7 @@ use Rattle.rules.proofs.Grown.{placeIn, shaped}
 use Rattle.rules.proofs.Numbers.{ChildrenLater, node-in, children-later, tree-at}
 use Rattle.policy.specs.Tree.{treeAt}
 use Rattle.rules.specs.Passed.{Passed}
-use Rattle.rules.proofs.Rows.{CountsFit, counts-fit}
+use Rattle.rules.proofs.Rows.{CountsFit, counts-fit, leaf-owned}
 use Rattle.reading.specs.Kinds.{wayOf, joinOf, kindOf}
 use Rattle.reading.specs.declared.Kind.{Kind}
 use Rattle.reading.specs.declared.Kind.the-variants as kinds
@@ -29,6 +29,7 @@ use Rattle.reading.specs.declared.Way as declared
 use Rattle.reading.specs.declared.Join as joins
 use Rattle.reading.specs.Code.{codeAt}
 use Rattle.tables.specs.Tables.{stepsBefore}
+use Rattle.policy.proofs.ListLaws.{map-listed}
 
 -- ---- the room of a node and of its steps
 
@@ -145,11 +146,6 @@ steps-next file i =
     let z : 0 + i ≡ i = omega arith in
     summed-last (λ k. owned (nodeAt file (nodePlace k))) 0 i ∙ ap (λ (k : ℕ). stepsBefore file i + owned (nodeAt file (nodePlace k))) z
 
-map-listed : {A B : Type 0} (g : A → B) (f : ℕ → A) (i n : ℕ) → map g (listed f i n) ≡ listed (λ k. g (f k)) i n
-unfolding listed
-map-listed g f i zero = refl
-map-listed g f i (suc n) = ap (λ (l : List _). g (f i) ∷ l) (map-listed g f (suc i) n)
-
 pub steps-all : {file : Bytes} → Passed file → stepsBefore file (nodeCount file) ≡ stepCount file
 unfolding broken6 stepsBefore nodes
 steps-all {file} ok =
@@ -225,10 +221,6 @@ steps-place {file} ok i h =
     ∙ take-listed H k (0 + j) (stepCount file - j) (omega arith)
     ∙ listed-same H (λ o. stepOf (rowAt file (rowPlace file j + stepSize * o))) (0 + j) 0 k
     (λ o. unfold rowPlace in ap (λ (n : ℕ). stepOf (rowAt file n)) (omega arith))
-
-leaf-owned : (x : Node) → nodeKind (x .kind) ≡ aLeaf → owned x ≡ x .count
-unfolding owned
-leaf-owned x e = rw (e, owned)
 
 -- a leaf, with its steps where the file has them
 pub tree-leaf : {file : Bytes} → Passed file → (i : ℕ) → i < nodeCount file → nodeKind (nodeAt file (nodePlace i) .kind) ≡ aLeaf

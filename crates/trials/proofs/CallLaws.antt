@@ -10,8 +10,8 @@ use borrow.Rule.Slice.PartMut.{mid-len}
 use Rattle.policy.specs.Bytes.{Bytes, number}
 use Rattle.turns.specs.Turn.{Request, opening, offer, close}
 use Rattle.turns.specs.Entries.{entry}
-use Rattle.calling.specs.Replies.{Gave}
-use Rattle.calling.specs.declared.Answer.{Answer}
+use Rattle.answering.specs.Replies.{Gave}
+use Rattle.answering.specs.declared.Answer.{Answer}
 use Rattle.trials.specs.Calls.{fieldEnd, policyEnd, stateEnd, eventsEnd, longest, Placed, part, policyIn, stateIn, eventsIn, request, called, Found, Taken, replyBytes, Answers}
 use Rattle.trials.specs.declared.calls.Parts.{Parts}
 use Rattle.trials.specs.declared.calls.Call.{Call}
@@ -110,10 +110,6 @@ request-offer n a e = rw (request, ne-eqb n 1 (λ d. omega arith), eq-eqb n 2 e)
 pub request-close : (n a : ℕ) → (n ≡ 1 → ⊥) → (n ≡ 2 → ⊥) → close ≡ request n a
 unfolding request
 request-close n a d e = rw (request, ne-eqb n 1 d, ne-eqb n 2 e) refl
-
-pub gave-as : (policy state events : Bytes) {saved room : Bytes} {r : Answer} {q k : Request} → k ≡ q → Gave (entry policy k state events) r saved room
-    → Gave (entry policy q state events) r saved room
-gave-as policy state events {saved} {room} {r} e g = subst (λ (x : Request). Gave (entry policy x state events) r saved room) e g
 
 -- ---- buffers
 

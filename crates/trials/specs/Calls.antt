@@ -9,9 +9,9 @@ use Rattle.policy.specs.Bytes.{Bytes, number, spell}
 use Rattle.rules.specs.Check.{Answer, passes, refused}
 use Rattle.turns.specs.Turn.{Request, opening, offer, close}
 use Rattle.turns.specs.Entries.{Result, entry}
-use Rattle.calling.specs.Replies.{spoken}
-use Rattle.calling.specs.declared.Answer as guard
-use Rattle.calling.specs.declared.Answer.the-variants.{Answered, Refused}
+use Rattle.answering.specs.Replies.{spoken}
+use Rattle.answering.specs.declared.Answer as guard
+use Rattle.answering.specs.declared.Answer.the-variants.{Answered, Refused}
 use Rattle.trials.specs.declared.calls.Parts.{Parts}
 use Rattle.trials.specs.declared.calls.Call.{Call}
 use Rattle.trials.specs.declared.calls.Call.the-variants.{Whole, Short}

@@ -37,7 +37,8 @@ use Rattle.memory.proofs.Frames.{same-or-not}
 use Rattle.memory.proofs.Steps as steps
 use Rattle.memory.proofs.Steps.{via, led-on, led-same, led-ahead, went-ahead, fed-ahead}
 use Rattle.memory.proofs.Calls as calls
-use Rattle.sides.proofs.Nodes.{placed, number-at, Sides, sides, tree-is, numbered-here}
+use Rattle.sides.proofs.Nodes.{placed, Sides, sides, tree-is, numbered-here}
+use Rattle.rules.proofs.Numbers.{number-at}
 
 -- ---- what a call met, by another name
 

@@ -3,10 +3,10 @@
 use Prim.Native.Nat.{ℕ, zero, suc, _+_, _*_, _-_, _≤_, _<_, zero-le}
 use native.Mathlib.Nat.{le-refl, le-of-suc-le-suc, not-suc-le-zero}
 use native.Mathlib.Omega.{arith}
-use mathlib.Core.Path.{_≡_, refl, sym, subst}
+use mathlib.Core.Path.{_≡_, refl, sym, subst, ap, _∙_}
 use mathlib.Core.Logic.{inl, inr}
 use mathlib.Core.Bool.{Bool, true, false, not}
-use mathlib.Core.List.{List, [], _∷_, _++_}
+use mathlib.Core.List.{List, [], _∷_, _++_, append-assoc}
 use lib.ListN.{length, getD, drop}
 use Rattle.actions.specs.Sets.{Action, ActionSet, has}
 use Rattle.actions.proofs.Tests.{yes-of}
@@ -18,6 +18,7 @@ use Rattle.turns.specs.Status.{isRunning, joined}
 use Rattle.turns.specs.State.{State, status, asked, offset, leafOver, settled}
 use Rattle.turns.specs.Process.{Item, ran, lets, sups, accepts, suppresses, Out, Process, stop, does, both, then, outcome, items, trace}
 use Rattle.turns.specs.Turn.{quiet, which, affords, stepping, goes, unlessDecided, perhaps}
+use Rattle.turns.specs.Events.{Event, eventOf, events}
 
 -- ---- counting
 
@@ -181,3 +182,10 @@ module _ (u v : ℕ) where
     goes-le law a (suc fuel) o c =
         step-le a (goes i code a fuel) o c (prices (drop (suc o) code)) (getD code o halt)
         (near code o (targets (getD code o halt)) (law .forward o) (law .inside o)) (λ t c′. goes-le law a fuel t c′)
+
+-- ---- events of items in a row
+
+pub events-append : (xs ys : List Item) → events (xs ++ ys) ≡ events xs ++ events ys
+unfolding events
+events-append [] ys = refl
+events-append (x ∷ xs) ys = ap (λ (l : List Event). eventOf x ++ l) (events-append xs ys) ∙ sym (append-assoc (eventOf x) (events xs) (events ys))

@@ -8,7 +8,7 @@ use mathlib.Core.List.{List, [], _∷_}
 use lib.Dec.{T, eqb, leb, eqb→eq, eqb-refl, leb→le, le→leb}
 use lib.ListN.{length, drop, getD, replicate, length-replicate}
 use Rattle.actions.specs.Sets.{ActionSet}
-use Rattle.actions.proofs.Tests.{of-yes, and-intro, and-left, and-right, or-cases, not-false}
+use Rattle.actions.proofs.Tests.{of-yes, and-intro, and-left, and-right, or-cases, not-false, yes-of}
 use Rattle.policy.specs.Bytes.{Bytes, put}
 use Rattle.policy.specs.Lists.{among, every}
 use Rattle.policy.specs.Records.{mostNodes, nodeCount}
@@ -24,17 +24,9 @@ use Rattle.turns.specs.Saved.{waitsAt, fitsUnder, zerosUpTo, fits}
 use Rattle.turns.proofs.Rest.{gone, decidedBy, Rest, leaf-waits, leaf-ended, leaf-halted, trivial-ended, unsatisfiable-halted, pair-runs, pair-decided}
 use Rattle.turns.proofs.Cells.{Below, below-more, below-here, below-left, below-right, Apart, Sized, cellAt, cell-length, cell-same, put-size, put-cell, put-elsewhere}
 use Rattle.turns.proofs.Cells.{store-sized, zeros-is, zero-word, status-back, status-is, offset-is, counter-is, Kept, kept-load, rest-stored, saved-kept, saved-length}
+use Rattle.turns.proofs.StatusLaws.{is-running}
 
 -- ---- a running pair
-
-pub is-running : (s : Status) → T (isRunning s) → s ≡ running
-unfolding isRunning
-is-running running h = refl
-is-running ended h = absurd h
-is-running endedLeft h = absurd h
-is-running endedRight h = absurd h
-is-running halted h = absurd h
-is-running dropped h = absurd h
 
 -- undecided is what a node is whose sides make it run
 pub undecided-runs : (j : Join) (a b : Status) → undecided j a b ≡ isRunning (joined j a b)
@@ -55,7 +47,7 @@ undecided-runs or a b = go (hasEnded a) refl (hasEnded b) refl (isHalted a && is
     go false p false q false r = rw (p, q, r)
 
 pub undecided-joined : (j : Join) (a b : Status) → T (undecided j a b) → joined j a b ≡ running
-undecided-joined j a b h = is-running (joined j a b) (subst T (undecided-runs j a b) h)
+undecided-joined j a b h = is-running (joined j a b) (yes-of (isRunning (joined j a b)) (subst T (undecided-runs j a b) h))
 
 pub joined-undecided : (j : Join) (a b : Status) → joined j a b ≡ running → T (undecided j a b)
 joined-undecided j a b e = subst T (sym (undecided-runs j a b ∙ ap isRunning e)) (unfold isRunning in tt)
@@ -255,7 +247,7 @@ fits-rest (node w j i l r) bs h = go (isRunningAt bs i) refl (pair-parts false w
     go : (b : Bool) → isRunningAt bs i ≡ b → PairFits false b w j i l r bs → (T (fitsUnder false l bs) → Rest l (load l bs)) → (T (fitsUnder false r bs) → Rest r (load r bs))
         → Rest (node w j i l r) (over (statusOf (statusAt bs i)) false (load l bs) (load r bs))
     go true e p a b =
-        let q : statusOf (statusAt bs i) ≡ running = unfold isRunningAt in is-running (statusOf (statusAt bs i)) (of-yes (isRunningAt bs i) e) in
+        let q : statusOf (statusAt bs i) ≡ running = unfold isRunningAt in is-running (statusOf (statusAt bs i)) e in
         let u : joined j (status (load l bs)) (status (load r bs)) ≡ running =
         rw (← status-at l bs, ← status-at r bs) (undecided-joined j (statusOf (statusAt bs (numberOf l))) (statusOf (statusAt bs (numberOf r))) (p .runs)) in
         rw q (pair-runs (a (p .left-fits)) (b (p .right-fits)) u)

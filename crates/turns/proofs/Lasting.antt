@@ -32,17 +32,9 @@ use Rattle.turns.proofs.Fits.{fits-load, fits-saved}
 use Rattle.turns.proofs.States.{rest-decided}
 use Rattle.turns.proofs.Walk.{call-fine, close-over, opening-fine}
 use Rattle.turns.proofs.Answered.{Answered, answered, Reads, state-fits, file-passed}
+use Rattle.turns.proofs.Steps.{waits-in}
 
 -- ---- sizes
-
-next-inside : (code : List Step) (o : ℕ) → T (isNext (getD code o halt)) → o < length code
-unfolding isNext
-next-inside code o h = go (ltb o (length code)) refl
-  where
-    go : (b : Bool) → ltb o (length code) ≡ b → o < length code
-    go true e = ltb→lt o (length code) (subst T (sym e) tt)
-    go false e = absurd (subst (λ (k : Step). T (isNext k))
-        (List·getD-eq-default code halt (nltb→le o (length code) (subst (λ (b : Bool). T (not b)) (sym e) tt))) h)
 
 number-less : (bs : Bytes) (i size : ℕ) → Small bs → i + size ≤ length bs → number bs i size < 256 ^ size
 unfolding number
@@ -77,7 +69,7 @@ module _ (file : Bytes) (small : Small file) (ok : Passed file) where
   pub sized : Sized (tree file)
   unfolding tree
   sized = sized-leaves (tree file) (grown-leaves (places file) LeafSized (λ i e. (
-    (λ o h. let l = leaf-steps file (ok .kept4) (ok .kept6) i e .few in let k = next-inside (placeIn (places file) i .steps) o h in omega arith),
+    (λ o h. let l = leaf-steps file (ok .kept4) (ok .kept6) i e .few in let k = waits-in (placeIn (places file) i .steps) o h in omega arith),
     subst (λ (x : Node). x .start < 256 ^ 4) (sym (same-node file i)) (start-less i (ltb i (nodeCount file)) refl),
   )) (nodeCount file) 0)
 

@@ -1,3 +1,4 @@
+pub mod StatusLaws
 pub mod Rest
 pub mod Safe
 pub mod Cells

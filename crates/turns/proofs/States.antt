@@ -16,6 +16,7 @@ use Rattle.turns.specs.Status.{Status, running, ended, endedLeft, endedR
 use Rattle.turns.specs.State.{State, over, status, asked, offset, counter, leftOf, rightOf, leafOver, drop, noded, settled}
 use Rattle.turns.proofs.Rest.{gone, decidedBy, Rest, leaf-waits, leaf-ended, leaf-halted, trivial-ended, unsatisfiable-halted, pair-runs, pair-decided, Mid, rests, leaf-owes, trivial-owes}
 use Rattle.turns.proofs.Rest.{unsatisfiable-owes, pair-owes, Over}
+use Rattle.turns.proofs.StatusLaws.{is-running}
 
 -- ---- statuses
 
@@ -62,15 +63,6 @@ joined-decided j l r dl dr = go j
         (first (hasEnded r) (isHalted r) dr (or-false-right (isHalted l) (isHalted r) e))))))
     go or = step (hasEnded l) endedLeft _ refl (λ e. step (hasEnded r) endedRight _ refl (λ e′. step (isHalted l && isHalted r) halted running refl (λ e″. absurd (subst T e″
         (and-intro (isHalted l) (isHalted r) (second (hasEnded l) (isHalted l) dl e) (second (hasEnded r) (isHalted r) dr e′))))))
-
-isRunning-running : (s : Status) → isRunning s ≡ true → s ≡ running
-unfolding isRunning
-isRunning-running running e = refl
-isRunning-running ended e = true-not-false e refl
-isRunning-running endedLeft e = true-not-false e refl
-isRunning-running endedRight e = true-not-false e refl
-isRunning-running halted e = true-not-false e refl
-isRunning-running dropped e = true-not-false e refl
 
 -- the statuses that decide a node are decided
 decidedBy-decided : (j : Join) (s : Status) → T (decidedBy j s) → T (isDecided s)
@@ -206,14 +198,14 @@ module _ (w : Way) (j : Join) (i : ℕ) (l r : Tree) where
   pub settled-rest : (a b : State) → Rest l a → Rest r b → Rest (node w j i l r) (settled j false a b)
   settled-rest a b p q =
       settled-cases (Rest (node w j i l r)) j false a b
-      (λ e. let k = isRunning-running (joined j (status a) (status b)) e in
+      (λ e. let k = is-running (joined j (status a) (status b)) e in
       subst (λ (s : Status). Rest (node w j i l r) (over s false a b)) (sym k) (pair-runs p q k))
       (dropped-rest a b (rests p) (rests q))
 
   pub settled-mid : (a b : State) → Mid l a → Mid r b → Mid (node w j i l r) (settled j true a b)
   settled-mid a b p q =
       settled-cases (Mid (node w j i l r)) j true a b
-      (λ e. let k = isRunning-running (joined j (status a) (status b)) e in
+      (λ e. let k = is-running (joined j (status a) (status b)) e in
       subst (λ (s : Status). Mid (node w j i l r) (over s true a b)) (sym k) (pair-owes p q k))
       (λ e. rests (dropped-rest a b p q e))
 

@@ -47,7 +47,7 @@ step-prices (k ∷ code) = omega (arith, none-le (isNext k) 1, step-prices code)
 drop-prices : (code : List Step) (o : ℕ) → prices 1 0 (drop o code) ≤ length code - o
 drop-prices code o = omega (arith, step-prices (drop o code), length-drop o code)
 
-waits-in : (code : List Step) (o : ℕ) → T (isNext (getD code o halt)) → o < length code
+pub waits-in : (code : List Step) (o : ℕ) → T (isNext (getD code o halt)) → o < length code
 unfolding isNext
 waits-in code o h = ⊎-elim (λ l. l) (λ e. absurd (subst (λ (k : Step). T (isNext k)) e h)) (in-leaf code o)
 

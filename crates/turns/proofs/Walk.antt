@@ -353,7 +353,7 @@ good (node sequential j i l r) law =
 -- ---- the calls
 
 -- nothing is decided before the opening: a side not yet opened counts as running
-fresh-runs : (t : Tree) → status (fresh t) ≡ running
+pub fresh-runs : (t : Tree) → status (fresh t) ≡ running
 unfolding fresh status
 fresh-runs (leaf i r c code) = refl
 fresh-runs (trivial i) = refl

@@ -24,6 +24,7 @@ use Rattle.turns.specs.Turn.{Phase, phase}
 use Rattle.turns.specs.Events.{stepsRun}
 use Rattle.turns.proofs.Steps.{step-prices, steps-count}
 use Rattle.turns.proofs.Costs.{cost, phase-cost}
+use Rattle.policy.proofs.ListLaws.{one-most}
 
 -- ---- the leaves: each has a number of its own
 
@@ -38,15 +39,10 @@ tally : (ℕ → Bool) → ℕ → ℕ
 tally f zero = 0
 tally f (suc n) = one (f 0) + tally (λ k. f (suc k)) n
 
-one-le : (b : Bool) → one b ≤ 1
-unfolding one
-one-le true = omega arith
-one-le false = omega arith
-
 tally-most : (f : ℕ → Bool) (n : ℕ) → tally f n ≤ n
 unfolding tally
 tally-most f zero = zero-le
-tally-most f (suc n) = omega (arith, one-le (f 0), tally-most (λ k. f (suc k)) n)
+tally-most f (suc n) = omega (arith, one-most (f 0), tally-most (λ k. f (suc k)) n)
 
 tally-some : (f : ℕ → Bool) (i n : ℕ) → i < n → T (f i) → 1 ≤ tally f n
 unfolding tally one
@@ -61,8 +57,8 @@ tally-two f g h e (suc n) = omega (arith, e 0, tally-two (λ k. f (suc k)) (λ k
 
 one-each : (a p q : Bool) → (p ≡ false) ⊎ (q ≡ false) → one p + one q ≤ one (a || (p || q))
 unfolding one
-one-each true p q (inl e) = omega (arith, ap one e, one-le q)
-one-each true p q (inr e) = omega (arith, ap one e, one-le p)
+one-each true p q (inl e) = omega (arith, ap one e, one-most q)
+one-each true p q (inr e) = omega (arith, ap one e, one-most p)
 one-each false true q (inl e) = true-not-false refl e
 one-each false true q (inr e) = omega (arith, ap one e)
 one-each false false q e = omega arith

@@ -7,11 +7,11 @@ use lib.Dec.{eqb, ltb}
 use lib.ListN.{length}
 use Rattle.actions.specs.Sets.{isAction}
 use Rattle.policy.specs.Bytes.{Bytes, put}
-use Rattle.policy.specs.Tree.{tree}
+use Rattle.policy.specs.Tree.{Tree, tree}
 use Rattle.rules.specs.Check.{passes, refused, check}
 use Rattle.turns.specs.Status.{Status, statusOf, isHalted}
 use Rattle.turns.specs.State.{status}
-use Rattle.turns.specs.Process.{outcome, trace, items}
+use Rattle.turns.specs.Process.{Process, outcome, trace, items}
 use Rattle.turns.specs.Turn.{Request, opening, offer, close, call}
 use Rattle.turns.specs.Events.{events, eventBytes}
 use Rattle.turns.specs.Saved.{stateSize, statusAt, load, saved, fits}
@@ -35,13 +35,15 @@ pub record Result : Type 0 where
 unfoldable pub refusal : ℕ → Bytes → Bytes → Result
 refusal n state room = record { reply = refuses n; state = state; events = room }
 
--- "Event bytes after the last event are unchanged."
-unfoldable pub carriedOut : Bytes → Request → Bytes → Bytes → Result
-carriedOut policy q state room =
-    let t = tree policy in
-    let p = call t q (load t state) in
+-- what a call gives that runs a process: "Event bytes after the last event are unchanged."
+unfoldable pub carried : Tree → Process → Bytes → Result
+carried t p room =
     let es = events (items (trace p)) in
     record { reply = answers (length es) (status (outcome p .state)); state = saved t (outcome p .state); events = put room 0 (eventBytes es) }
+
+unfoldable pub carriedOut : Bytes → Request → Bytes → Bytes → Result
+unfolding carried
+carriedOut policy q state room = let t = tree policy in carried t (call t q (load t state)) room
 
 -- 11: "state buffer is not 248 bytes, or event buffer is under 512"
 unfoldable pub broken11 : Bytes → Bytes → Bool

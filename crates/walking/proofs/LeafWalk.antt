@@ -12,7 +12,7 @@ use lib.Seq.{getD-take}
 use mir.Val.{boolByte}
 use borrow.Author.Tests.{ne-eqb}
 use Rattle.actions.specs.Sets.{ActionSet, EMPTY, union}
-use Rattle.actions.proofs.Tests.{and-intro, and-left, and-right, of-yes}
+use Rattle.actions.proofs.Tests.{and-intro, and-left, and-right, of-yes, and-assoc, and-true}
 use Rattle.policy.specs.Bytes.{Bytes, number}
 use Rattle.policy.specs.Lists.{one, listed, every, everyAt}
 use Rattle.policy.specs.Records.{rowAt}
@@ -21,25 +21,17 @@ use Rattle.policy.proofs.ListLaws.{listed-length, listed-at, listed-rest, liste
 use Rattle.reading.specs.Code.{codeAt}
 use Rattle.reading.proofs.CodeLaws.{code-length, code-at}
 use Rattle.rules.specs.Targets.{targetFits, asksWithin, targetsFit}
-use Rattle.rules.specs.Modes.{Mode, Mark, marked, walked, marks, modeFits}
+use Rattle.rules.specs.Modes.{Mode, Mark, marked, walked, marks, modeFits, stepped}
 use Rattle.rules.specs.Possible.{passOn, passedOn, possible, branchesTaken, allTaken}
 use Rattle.rules.specs.Interference.{stepEffects, codeEffects, leafEffects}
 use Rattle.rules.specs.Spread.{insCount}
 use Rattle.rules.proofs.Ahead.{in-or-out, Suffix}
 use Rattle.targets.proofs.TargetLaws.{fitFrom, fit-whole, fit-rest, fit-over, test-inside}
 use Rattle.modes.specs.Table.{reaching}
-use Rattle.modes.specs.Marks.{Agrees, stepped, Led, othersFit}
+use Rattle.modes.specs.Marks.{Agrees, Led, othersFit}
 use Rattle.modes.proofs.Final.{walked-elsewhere, fits-by}
 use Rattle.possible.proofs.PossibleLaws.{pass-take, passed-elsewhere, branches-alone, effects-by}
-use Rattle.walking.proofs.Unions.{union-assoc, union-none, union-end}
-
-and-assoc : (a b c : Bool) → (a && (b && c)) ≡ ((a && b) && c)
-and-assoc true b c = refl
-and-assoc false b c = refl
-
-and-true : (a : Bool) → (a && true) ≡ a
-and-true true = refl
-and-true false = refl
+use Rattle.actions.proofs.SetLaws.{union-assoc, union-none, union-end}
 
 -- a test that is made only of a step that is no next
 unless-next : (n x y : Bool) → (n ≡ false → x ≡ y) → (n || x) ≡ (n || y)

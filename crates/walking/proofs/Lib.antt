@@ -1,2 +1,1 @@
-mod Unions
 mod LeafWalk

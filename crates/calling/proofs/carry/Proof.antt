@@ -5,9 +5,9 @@ use denote.Triple.Spec.{tripleOf}
 use denote.Triple.Table.{entered, cited}
 use Rattle.turns.specs.Entries.{carriedOut}
 use Rattle.calling.specs.Calls.{asked, Counted, Allowed}
-use Rattle.calling.specs.Replies.{Gave}
-use Rattle.calling.proofs.Answer as S
-use Rattle.calling.proofs.Answer.Laws as S′
+use Rattle.answering.specs.Replies.{Gave}
+use Rattle.answering.proofs.Answer as S
+use Rattle.answering.proofs.Answer.Laws as S′
 use Rattle.calling.proofs.Call as K
 use Rattle.calling.proofs.Call.Laws as K′
 use Rattle.calling.proofs.Apart.{thin-meets}

@@ -16,9 +16,9 @@ use Rattle.tables.proofs.FileNodes.{room}
 use Rattle.turns.specs.Entries.{carriedOut}
 use Rattle.calling.specs.declared.Call.{Call}
 use Rattle.calling.specs.Calls.{asked, Counted, Allowed}
-use Rattle.calling.specs.Replies.{Gave}
-use Rattle.calling.proofs.Answer as S
-use Rattle.calling.proofs.Answer.Laws as S′
+use Rattle.answering.specs.Replies.{Gave}
+use Rattle.answering.proofs.Answer as S
+use Rattle.answering.proofs.Answer.Laws as S′
 use Rattle.calling.proofs.Call as K
 use Rattle.calling.proofs.Call.Laws as K′
 use Rattle.calling.proofs.Made.{maker-meets}

@@ -8,12 +8,12 @@ use lib.ListN.{length}
 use Rattle.policy.specs.Bytes.{Bytes}
 use Rattle.policy.specs.Records.{nodeSize, mostNodes, nodeCount, nodeAt}
 use Rattle.policy.specs.Tree.{nodeKind, Tree}
-use Rattle.rules.proofs.Numbers.{ChildrenLater}
+use Rattle.rules.proofs.Numbers.{ChildrenLater, number-at}
 use Rattle.policy.specs.Tree.{treeAt}
 use Rattle.reading.specs.declared.Kind.{Kind}
 use Rattle.reading.specs.Kinds.{kindOf}
 use Rattle.fitting.specs.Alone.{fitsAlone}
-use Rattle.fitting.proofs.FileLaws.{frame, inside, steps-inside, counts, number-at, is-leaf, is-trivial, is-none, is-unsatisfiable, is-pair, pair-later}
+use Rattle.fitting.proofs.FileLaws.{frame, inside, steps-inside, counts, is-leaf, is-trivial, is-none, is-unsatisfiable, is-pair, pair-later}
 use Rattle.fitting.proofs.node_fits.Statement.{statement}
 use Rattle.fitting.proofs.node_fits.Tie as tie
 

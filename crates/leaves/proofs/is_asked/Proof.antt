@@ -1,9 +1,10 @@
 -- `is_asked` meets its contract. Assumes nothing.
 use mathlib.Core.Path.{sym, _∙_}
-use Rattle.leaves.proofs.LeafStarts.{not-running, asked-never, asked-before, asked-after, asked-closing}
+use Rattle.leaves.proofs.LeafStarts.{asked-never, asked-before, asked-after, asked-closing}
 use borrow.Author.Needs.{needs}
 use Rattle.leaves.proofs.is_asked.Statement.{statement}
 use Rattle.leaves.proofs.is_asked.Tie as tie
+use Rattle.turns.proofs.StatusLaws.{not-running}
 
 returns : tie.Need-returns
 returns c = λ o k. sym (asked-never _ _ _ _ o k (not-running _ (c .if1 .taken)))

@@ -6,7 +6,7 @@ use lib.Dec.{T, lit<, lit≤}
 use Rattle.policy.specs.Records.{rowAt}
 use Rattle.policy.specs.Steps.{Step, stepOf}
 use Rattle.rules.specs.Modes.{Mode, idle, pending, closing}
-use Rattle.modes.specs.Table.{modeNumber, table, entryAt, ledBy, Tells}
+use Rattle.modes.specs.Table.{modeNumber, entryAt, ledBy, Tells}
 use Rattle.modes.specs.Marks.{roomFor}
 use Rattle.modes.proofs.Marks.{here-small}
 use Rattle.modes.proofs.Table.{tells-six, tells-others}

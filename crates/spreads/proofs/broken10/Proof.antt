@@ -7,10 +7,10 @@ use lib.ListN.{getD}
 use borrow.Author.Needs.{needs}
 use Rattle.policy.specs.Lists.{listed}
 use Rattle.records.proofs.Frame.{node-inside}
-use Rattle.records.proofs.Counted.{all-zero}
 use Rattle.spreads.proofs.SpreadLaws.{KeptFrom, kept-none, Here, here, ten}
 use Rattle.spreads.proofs.broken10.Statement.{statement}
 use Rattle.spreads.proofs.broken10.Tie as tie
+use Rattle.policy.proofs.ListLaws.{all-zero}
 
 abbrev Inv-loop : tie.InvT-loop
 Inv-loop policy n m inserts caps₀ i₀ caps i = (i ≤ n) × KeptFrom policy n i caps

@@ -5,9 +5,9 @@ use lib.Dec.{eqb}
 use borrow.Author.Needs.{needs}
 use Rattle.turns.specs.Saved.{statusAt}
 use Rattle.turns.specs.Entries.{broken14}
-use Rattle.guard.proofs.EntryLaws.{halted-five}
 use Rattle.guard.proofs.refusals.halted.Statement.{statement}
 use Rattle.guard.proofs.refusals.halted.Tie as tie
+use Rattle.turns.proofs.StatusLaws.{halted-five}
 
 returns : tie.Need-returns
 unfolding broken14 statusAt

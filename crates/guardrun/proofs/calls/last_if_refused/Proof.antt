@@ -1,23 +1,23 @@
 -- `last_if_refused` meets its contract. Assumes nothing.
 use mathlib.Core.Path.{ap, sym}
 use Rattle.guardrun.specs.Said.{lastIfRefused}
-use Rattle.guardrun.specs.Buffer.{asked}
-use Rattle.guardrun.specs.declared.calls.Request.{Request}
+use Rattle.calling.specs.Calls.{asked}
+use Rattle.calling.specs.declared.Call.{Call}
 use borrow.Author.Needs.{needs}
 use Rattle.guardrun.proofs.calls.last_if_refused.Statement.{statement}
 use Rattle.guardrun.proofs.calls.last_if_refused.Tie as tie
 
 returns : tie.Need-returns
 unfolding asked lastIfRefused
-returns c = ap (λ (q : Request). lastIfRefused (asked q)) (sym (c .enum-told .given .1))
+returns c = ap (λ (q : Call). lastIfRefused (asked q)) (sym (c .enum-told .given .1))
 
 returns-2 : tie.Need-returns-2
 unfolding asked lastIfRefused
-returns-2 c = ap (λ (q : Request). lastIfRefused (asked q)) (sym (c .enum-told2 .given .1))
+returns-2 c = ap (λ (q : Call). lastIfRefused (asked q)) (sym (c .enum-told2 .given .1))
 
 returns-3 : tie.Need-returns-3
 unfolding asked lastIfRefused
-returns-3 c = ap (λ (q : Request). lastIfRefused (asked q)) (sym (c .enum-told3 .given .1))
+returns-3 c = ap (λ (q : Call). lastIfRefused (asked q)) (sym (c .enum-told3 .given .1))
 
 pub last-if-refused-spec : {M : Type 1} → statement M
 last-if-refused-spec =

@@ -3,12 +3,13 @@ use native.Mathlib.Omega.{arith}
 use Rattle.turns.specs.Entries.{entry}
 use Rattle.guardrun.specs.Text.{ascii}
 use Rattle.guardrun.specs.Said.{said}
-use Rattle.guardrun.specs.Buffer.{asked}
+use Rattle.calling.specs.Calls.{asked}
 use Rattle.guardrun.proofs.TextLaws.{about}
-use Rattle.guardrun.proofs.CallLaws.{few, spoke-answered, spoke-refused, alone}
+use Rattle.guardrun.proofs.CallLaws.{spoke-answered, spoke-refused, alone}
 use borrow.Author.Needs.{needs}
 use Rattle.guardrun.proofs.calls.tell.Statement.{statement}
 use Rattle.guardrun.proofs.calls.tell.Tie as tie
+use Rattle.answering.proofs.Heard.{few}
 
 answered-requires : tie.Need-answered-requires
 answered-requires c κs =

@@ -1,9 +1,10 @@
 -- `enter` meets its contract. Assumes nothing.
 use Rattle.turns.specs.Entries.{opens, offers, closes}
-use Rattle.trials.proofs.CallLaws.{request-open, request-offer, request-close, gave-as}
+use Rattle.trials.proofs.CallLaws.{request-open, request-offer, request-close}
 use borrow.Author.Needs.{needs}
 use Rattle.trials.proofs.answers.enter.Statement.{statement}
 use Rattle.trials.proofs.answers.enter.Tie as tie
+use Rattle.answering.proofs.Heard.{gave-as}
 
 returns : tie.Need-returns
 unfolding opens
