@@ -1,31 +1,8 @@
 /* batch.c: reads a batch of guard calls on standard input and writes their answers on standard output. */
+#include "field.h"
 #include "guard.h"
 
-#include <stdbool.h>
-#include <stdio.h>
-
-/* A call: entry (1), policy length (2) and bytes, state length (2) and bytes,
- * event-buffer length (2) and bytes, action (1). Lengths are big-endian. */
-enum { CHECK = 0, OPEN = 1, OFFER = 2, CLOSE = 3, MAX_FIELD = 65535 };
-
-struct field {
-    size_t length;
-    uint8_t bytes[MAX_FIELD];
-};
-
 static struct field policy, state, events;
-
-static bool read_field(struct field *field)
-{
-    const int high = getchar();
-    const int low = getchar();
-
-    if (high == EOF || low == EOF) {
-        return false;
-    }
-    field->length = (size_t)high << 8 | (size_t)low;
-    return fread(field->bytes, 1, field->length, stdin) == field->length;
-}
 
 static void write_number(uint64_t number, unsigned bytes)
 {
@@ -85,6 +62,10 @@ int main(void)
             answer_check();
         } else {
             answer_call(entry, (uint8_t)action);
+        }
+        if (!surrounded(&policy) || !surrounded(&state) || !surrounded(&events)) {
+            fputs("batch: a byte beside a buffer is written\n", stderr);
+            return 1;
         }
     }
     return fflush(stdout) == 0 ? 0 : 1;

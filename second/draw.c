@@ -1,10 +1,8 @@
 /* draw.c: "draw SEED COUNT" writes a batch of COUNT guard calls from a fixed-seed generator. */
+#include "field.h"
 #include "guard.h"
 
-#include <stdbool.h>
-#include <stdio.h>
 #include <stdlib.h>
-#include <string.h>
 
 /* ------------------------------------------------------------------ */
 /* Chance: xorshift64*.                                                 */
@@ -723,8 +721,6 @@ static void grow_policy(struct policy *p, unsigned spread)
 
 /* ------------------------------------------------------------------ */
 /* The calls.                                                           */
-
-enum { CHECK = 0, OPEN = 1, OFFER = 2, CLOSE = 3 };
 
 static unsigned long calls_left;
 

@@ -1,19 +1,10 @@
 /* stats.c: reads a batch on standard input, makes its calls and prints statistics of the draw. */
+#include "field.h"
 #include "guard.h"
-
-#include <stdbool.h>
-#include <stdio.h>
 
 #ifndef GUARD_TALLY
 #error "build with -DGUARD_TALLY, guard.c too"
 #endif
-
-enum { MAX_FIELD = 65535 };
-
-struct field {
-    size_t length;
-    uint8_t bytes[MAX_FIELD];
-};
 
 static struct field policy, state, events;
 
@@ -23,18 +14,6 @@ static struct {
     unsigned long kinds[8], nodes[32], steps[6], step_kinds[9], status_by_node[7];
     unsigned long event_counts[12], event_kinds[4], most_events, verdict_halts;
 } seen;
-
-static bool read_field(struct field *field)
-{
-    const int high = getchar();
-    const int low = getchar();
-
-    if (high == EOF || low == EOF) {
-        return false;
-    }
-    field->length = (size_t)high << 8 | (size_t)low;
-    return fread(field->bytes, 1, field->length, stdin) == field->length;
-}
 
 /* Nodes and steps of a policy that passed. */
 static void count_policy(void)

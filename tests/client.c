@@ -1,14 +1,10 @@
 /* client.c: a C program over the library. It makes 01's small calls by the header's names, then those of a batch on standard input (as
  * second/draw draws it, arbitrary bytes among them), each beside the second guard's, and watches the surroundings of every buffer. */
 #include "../include/fretmere.h"
+#include "../second/field.h"
 #include "../second/guard.h"
 
-#include <stdbool.h>
-#include <stdio.h>
 #include <stdlib.h>
-#include <string.h>
-
-enum { CHECK = 0, OPEN = 1, OFFER = 2, CLOSE = 3, MOST = 65535, MARGIN = 64, MARK = 0xA5 };
 
 static void fail(const char *what, unsigned long call)
 {
@@ -16,51 +12,14 @@ static void fail(const char *what, unsigned long call)
     exit(1);
 }
 
-/* A buffer in the middle of marked bytes. */
-struct field {
-    size_t length;
-    uint8_t around[MARGIN + MOST + MARGIN];
-};
-
-static uint8_t *bytes(struct field *field) { return field->around + MARGIN; }
-
-static bool marked(const uint8_t *from, size_t length)
-{
-    for (size_t i = 0; i < length; i++) {
-        if (from[i] != MARK) {
-            return false;
-        }
-    }
-    return true;
-}
-
-static bool surrounded(const struct field *field)
-{
-    return marked(field->around, MARGIN) && marked(field->around + MARGIN + field->length, MARGIN);
-}
-
-static bool read_field(struct field *field)
-{
-    const int high = getchar();
-    const int low = getchar();
-
-    if (high == EOF || low == EOF) {
-        return false;
-    }
-    field->length = (size_t)high << 8 | (size_t)low;
-    memset(field->around, MARK, MARGIN);
-    memset(field->around + MARGIN + field->length, MARK, MARGIN);
-    return fread(bytes(field), 1, field->length, stdin) == field->length;
-}
-
 static struct field policy, state, events;
-static uint8_t kept[MOST], their_state[MOST], their_events[MOST];
+static uint8_t kept[MAX_FIELD], their_state[MAX_FIELD], their_events[MAX_FIELD];
 
 static void compare_check(unsigned long call)
 {
-    const guard_sets theirs = guard_check(bytes(&policy), policy.length);
+    const guard_sets theirs = guard_check(policy.bytes, policy.length);
     uint64_t sets[4] = {7, 8, 9, 10};
-    const uint8_t refusal = fretmere_check(bytes(&policy), policy.length, &sets[1], &sets[2]);
+    const uint8_t refusal = fretmere_check(policy.bytes, policy.length, &sets[1], &sets[2]);
 
     if (refusal != theirs.refusal) {
         fail("another refusal of the check", call);
@@ -75,15 +34,15 @@ static void compare_check(unsigned long call)
 
 static guard_answer their_answer(int entry, uint8_t action)
 {
-    memcpy(their_state, bytes(&state), state.length);
-    memcpy(their_events, bytes(&events), events.length);
+    memcpy(their_state, state.bytes, state.length);
+    memcpy(their_events, events.bytes, events.length);
     switch (entry) {
     case OPEN:
-        return guard_open(bytes(&policy), policy.length, their_state, state.length, their_events, events.length);
+        return guard_open(policy.bytes, policy.length, their_state, state.length, their_events, events.length);
     case OFFER:
-        return guard_offer(bytes(&policy), policy.length, their_state, state.length, their_events, events.length, action);
+        return guard_offer(policy.bytes, policy.length, their_state, state.length, their_events, events.length, action);
     default:
-        return guard_close(bytes(&policy), policy.length, their_state, state.length, their_events, events.length);
+        return guard_close(policy.bytes, policy.length, their_state, state.length, their_events, events.length);
     }
 }
 
@@ -91,11 +50,11 @@ static fretmere_answer our_answer(int entry, uint8_t action)
 {
     switch (entry) {
     case OPEN:
-        return fretmere_open(bytes(&policy), policy.length, bytes(&state), state.length, bytes(&events), events.length);
+        return fretmere_open(policy.bytes, policy.length, state.bytes, state.length, events.bytes, events.length);
     case OFFER:
-        return fretmere_offer(bytes(&policy), policy.length, bytes(&state), state.length, bytes(&events), events.length, action);
+        return fretmere_offer(policy.bytes, policy.length, state.bytes, state.length, events.bytes, events.length, action);
     default:
-        return fretmere_close(bytes(&policy), policy.length, bytes(&state), state.length, bytes(&events), events.length);
+        return fretmere_close(policy.bytes, policy.length, state.bytes, state.length, events.bytes, events.length);
     }
 }
 
@@ -107,7 +66,7 @@ static void compare_call(int entry, uint8_t action, unsigned long call)
     if (fretmere_refusal(ours) != theirs.refusal || fretmere_status(ours) != theirs.status || fretmere_events(ours) != theirs.events) {
         fail("another answer", call);
     }
-    if (memcmp(bytes(&state), their_state, state.length) != 0 || memcmp(bytes(&events), their_events, events.length) != 0) {
+    if (memcmp(state.bytes, their_state, state.length) != 0 || memcmp(events.bytes, their_events, events.length) != 0) {
         fail("another buffer", call);
     }
 }
@@ -121,7 +80,7 @@ static unsigned long compare_batch(void)
             fail("the batch ends in the middle of it", calls);
         }
         const int action = getchar();
-        memcpy(kept, bytes(&policy), policy.length);
+        memcpy(kept, policy.bytes, policy.length);
         if (entry == CHECK) {
             compare_check(calls);
         } else {
@@ -130,7 +89,7 @@ static unsigned long compare_batch(void)
         if (!surrounded(&policy) || !surrounded(&state) || !surrounded(&events)) {
             fail("a byte beside a buffer is written", calls);
         }
-        if (memcmp(kept, bytes(&policy), policy.length) != 0) {
+        if (memcmp(kept, policy.bytes, policy.length) != 0) {
             fail("the policy is written", calls);
         }
     }
