@@ -34,7 +34,8 @@ enum {
     FRETMERE_BUFFERS = 11,     /* the state buffer is not 248 bytes, or the event buffer is under 512 */
     FRETMERE_STATE = 12,       /* the state does not fit the policy */
     FRETMERE_ACTION = 13,      /* the action is above 63 */
-    FRETMERE_ROOT_HALTED = 14  /* the root has halted */
+    FRETMERE_ROOT_HALTED = 14, /* the root has halted */
+    FRETMERE_ROOM = 15         /* the output is shorter than the file that was to be written */
 };
 
 /* The root's status. */
@@ -76,6 +77,14 @@ fretmere_answer fretmere_offer(const uint8_t *policy, size_t policy_length, uint
 /* Closes the policy: afterwards its root is decided. Refusals 1 to 12. State and events as by fretmere_offer. */
 fretmere_answer fretmere_close(const uint8_t *policy, size_t policy_length, uint8_t *state, size_t state_length,
                                uint8_t *events, size_t events_length);
+
+/* Writes a policy file from its records. `nodes` holds the node records, 16 bytes each, and `steps` the step records, 12 bytes each, laid
+ * out as in the file; length, version and counts are made. The answer is the refusal in its highest byte, read by fretmere_refusal, or
+ * else the length of the file, which fretmere_check passes and which stands from the output's first byte on; the bytes after it stay as
+ * they were. Refusals 3 to 10 of the file that would be written, where 3 means: a length that is no multiple of 16 or of 12, no node,
+ * more than 31 nodes or more than 512 steps; then 15. A refusal writes nothing. */
+uint32_t fretmere_write(const uint8_t *nodes, size_t nodes_length, const uint8_t *steps, size_t steps_length, uint8_t *out,
+                        size_t out_length);
 
 #ifdef __cplusplus
 }

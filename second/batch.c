@@ -2,7 +2,9 @@
 #include "field.h"
 #include "guard.h"
 
+/* What the three fields of a call are: the writer's stand in the places of the others'. */
 static struct field policy, state, events;
+static struct field *const nodes = &policy, *const steps = &state, *const out = &events;
 
 static void write_number(uint64_t number, unsigned bytes)
 {
@@ -18,6 +20,16 @@ static void answer_check(void)
     write_number(sets.refusal, 1);
     write_number(sets.regulated.bits, 8);
     write_number(sets.effect.bits, 8);
+}
+
+static void answer_write(void)
+{
+    const guard_written written = guard_write(nodes->bytes, nodes->length, steps->bytes,
+                                              steps->length, out->bytes, out->length);
+
+    write_number(written.refusal, 1);
+    write_number(written.length, 2);
+    fwrite(out->bytes, 1, out->length, stdout);
 }
 
 static void answer_call(int entry, uint8_t action)
@@ -41,27 +53,32 @@ static void answer_call(int entry, uint8_t action)
     fwrite(events.bytes, 1, events.length, stdout);
 }
 
+/* Reads the rest of a call and answers it. */
+static bool one_call(int entry)
+{
+    if (entry > WRITE || !read_field(&policy) || !read_field(&state) || !read_field(&events)) {
+        return false;
+    }
+    const int action = getchar();
+    if (action == EOF) {
+        return false;
+    }
+    if (entry == CHECK) {
+        answer_check();
+    } else if (entry == WRITE) {
+        answer_write();
+    } else {
+        answer_call(entry, (uint8_t)action);
+    }
+    return true;
+}
+
 int main(void)
 {
-    for (;;) {
-        const int entry = getchar();
-        if (entry == EOF) {
-            break;
-        }
-        if (entry > CLOSE || !read_field(&policy) || !read_field(&state) ||
-            !read_field(&events)) {
+    for (int entry = getchar(); entry != EOF; entry = getchar()) {
+        if (!one_call(entry)) {
             fputs("batch: broken input\n", stderr);
             return 1;
-        }
-        const int action = getchar();
-        if (action == EOF) {
-            fputs("batch: broken input\n", stderr);
-            return 1;
-        }
-        if (entry == CHECK) {
-            answer_check();
-        } else {
-            answer_call(entry, (uint8_t)action);
         }
         if (!surrounded(&policy) || !surrounded(&state) || !surrounded(&events)) {
             fputs("batch: a byte beside a buffer is written\n", stderr);

@@ -153,20 +153,24 @@ static void write_step(uint8_t *at, const struct step *s)
     put(at + 4, s->operand, 8);
 }
 
+static void write_node(uint8_t *at, const struct node *node)
+{
+    at[0] = node->kind;
+    at[1] = node->left;
+    at[2] = node->right;
+    at[3] = node->count;
+    put(at + 4, node->start, 4);
+    put(at + 8, node->set, 8);
+}
+
 static void write_file(struct file *f, const struct policy *p)
 {
     uint8_t *at = f->bytes + 6;
     unsigned m = 0;
 
     for (unsigned k = 0; k < p->n; k++, at += 16) {
-        const struct node *node = &p->nodes[k];
-        at[0] = node->kind;
-        at[1] = node->left;
-        at[2] = node->right;
-        at[3] = node->count;
-        put(at + 4, node->start, 4);
-        put(at + 8, node->set, 8);
-        m += node->count;
+        write_node(at, &p->nodes[k]);
+        m += p->nodes[k].count;
     }
     for (unsigned k = 0; k < p->n; k++) {
         for (unsigned s = 0; s < p->nodes[k].count; s++, at += 12) {
@@ -833,13 +837,10 @@ static guard_answer call_with_action(struct session *s, unsigned entry)
     return call(s, entry, action);
 }
 
-/* A policy that passes; mostly one that opens running. */
-static void draw_good(struct session *s)
+/* A policy that passes. */
+static void draw_passing(struct session *s)
 {
-    const bool alive = chance(90);
-    uint8_t scratch[GUARD_EVENT_BYTES];
-
-    for (unsigned tries = 0;; tries++) {
+    do {
         if (chance(5)) {
             grow_storm(&s->policy);
         } else if (chance(1)) {
@@ -849,16 +850,22 @@ static void draw_good(struct session *s)
         }
         write_file(&s->file, &s->policy);
         s->sets = guard_check(s->file.bytes, s->file.length);
-        if (s->sets.refusal != 0) {
-            continue;
-        }
-        const guard_answer answer =
-            guard_open(s->file.bytes, s->file.length, s->state, GUARD_STATE_BYTES, scratch,
-                       sizeof scratch);
-        if (!alive || answer.status == GUARD_RUNNING || tries > 30) {
-            return;
-        }
-    }
+    } while (s->sets.refusal != 0);
+}
+
+/* A policy that passes; mostly one that opens running. */
+static void draw_good(struct session *s)
+{
+    const bool alive = chance(90);
+    uint8_t scratch[GUARD_EVENT_BYTES];
+    guard_answer answer;
+    unsigned tries = 0;
+
+    do {
+        draw_passing(s);
+        answer = guard_open(s->file.bytes, s->file.length, s->state, GUARD_STATE_BYTES, scratch,
+                            sizeof scratch);
+    } while (alive && answer.status != GUARD_RUNNING && tries++ < 30);
 }
 
 /* ------------------------------------------------------------------ */
@@ -1614,24 +1621,29 @@ static void any_call(struct session *s)
     call_with_action(s, chance(55) ? CHECK : between(OPEN, CLOSE));
 }
 
+/* A good file with one clause broken, or with two. */
+static void break_good(struct file *f, const struct file *good)
+{
+    do {
+        *f = *good;
+    } while (!break_file(f));
+    if (chance(20) && f->length == good->length && memcmp(f->bytes, good->bytes, 6) == 0) {
+        (void)break_file(f); /* two at once: the lower number is due */
+    }
+}
+
 static void draw_broken(struct session *s)
 {
     draw_good(s);
     const struct file good = s->file;
     for (unsigned times = between(1, 5); times > 0; times--) {
-        do {
-            s->file = good;
-        } while (!break_file(&s->file));
-        if (chance(20) && s->file.length == good.length &&
-            memcmp(s->file.bytes, good.bytes, 6) == 0) {
-            (void)break_file(&s->file); /* two at once: the lower number is due */
-        }
+        break_good(&s->file, &good);
         any_call(s);
     }
 }
 
-/* Files aimed at rules 9 and 10 by their making. */
-static void draw_wide(struct session *s)
+/* A file aimed at rules 9 and 10 by its making. */
+static void grow_wide(struct session *s)
 {
     if (chance(30)) {
         grow_storm(&s->policy);
@@ -1649,7 +1661,19 @@ static void draw_wide(struct session *s)
     }
     write_file(&s->file, &s->policy);
     s->sets = guard_check(s->file.bytes, s->file.length);
+}
+
+static void draw_wide(struct session *s)
+{
+    grow_wide(s);
     any_call(s);
+}
+
+static void noise(uint8_t *bytes, size_t length)
+{
+    for (size_t i = 0; i < length; i++) {
+        bytes[i] = (uint8_t)(chance(50) ? below(9) : below(256));
+    }
 }
 
 /* Bytes by chance, some under a header that agrees. */
@@ -1661,9 +1685,7 @@ static void draw_noise(struct session *s)
 
     draw_good(s);
     f->length = chance(50) ? below(200) : 6 + 16u * n + 12u * m;
-    for (size_t i = 0; i < f->length; i++) {
-        f->bytes[i] = (uint8_t)(chance(50) ? below(9) : below(256));
-    }
+    noise(f->bytes, f->length);
     if (chance(70) && f->length >= 6) {
         fix_length(f);
         f->bytes[2] = 1;
@@ -1673,10 +1695,322 @@ static void draw_noise(struct session *s)
     any_call(s);
 }
 
+/* ------------------------------------------------------------------ */
+/* Calls of the writer.                                                 */
+
+static struct field nodes, steps, out;
+
+/* The records of a file whose counts and length agree. */
+static void take_apart(const struct file *f)
+{
+    nodes.length = 16u * f->bytes[3];
+    steps.length = f->length - 6 - nodes.length;
+    memcpy(nodes.bytes, f->bytes + 6, nodes.length);
+    memcpy(steps.bytes, f->bytes + 6 + nodes.length, steps.length);
+}
+
+/* An output for a file of a length: too short by chance, else exact or longer. */
+static size_t draw_room(size_t length, unsigned short_percent)
+{
+    static const unsigned FEW[] = {0, 1, 5, 6, 21};
+
+    if (chance(short_percent)) {
+        switch (below(4)) {
+        case 0:
+            return 0;
+        case 1:
+            return FEW[below(5)];
+        case 2:
+            return below((unsigned)length);
+        default:
+            return length - 1;
+        }
+    }
+    if (chance(1)) {
+        return MAX_FIELD;
+    }
+    return chance(45) ? length : length + (chance(40) ? 1 : between(1, 300));
+}
+
+/* Writes one call with an output for a file of a length. */
+static void call_write(size_t length, unsigned short_percent)
+{
+    const size_t room = draw_room(length, short_percent);
+
+    if (calls_left == 0) {
+        return;
+    }
+    calls_left--;
+    out.length = room > MAX_FIELD ? MAX_FIELD : room;
+    pattern(out.bytes, out.length);
+    putchar(WRITE);
+    write_field(nodes.bytes, nodes.length);
+    write_field(steps.bytes, steps.length);
+    write_field(out.bytes, out.length);
+    putchar((int)below(256));
+}
+
+/* The same, the length being that of a file with these very records. */
+static void call_write_all(unsigned short_percent)
+{
+    call_write(6 + nodes.length + steps.length, short_percent);
+}
+
+static void more_nodes(unsigned count)
+{
+    for (; count > 0; count--, nodes.length += 16) {
+        write_node(nodes.bytes + nodes.length, &(struct node){.kind = TRIVIAL});
+    }
+}
+
+static void more_steps(unsigned count)
+{
+    for (; count > 0; count--, steps.length += 12) {
+        write_step(steps.bytes + steps.length, &(struct step){.kind = END});
+    }
+}
+
+/* A leaf without inserts: next, spends, ok, end. Trivial when it is to have no
+ * step; 1 and 2 steps it can't have. */
+static void calm_leaf(struct node *leaf, unsigned count)
+{
+    *leaf = (struct node){.kind = count == 0 ? TRIVIAL : LEAF, .count = (uint8_t)count};
+    if (count == 0) {
+        return;
+    }
+    leaf->set = 1;
+    for (unsigned s = 1; s + 2 < count; s++) {
+        leaf->steps[s] = (struct step){SPEND, 0, {(uint8_t)(s + 1), (uint8_t)(s + 1)}, 0};
+    }
+    leaf->steps[0] = (struct step){NEXT, 0, {1, (uint8_t)(count - 1)}, 0};
+    leaf->steps[count - 2] = (struct step){OK, 0, {0, 0}, 0};
+    leaf->steps[count - 1] = (struct step){END, 0, {0, 0}, 0};
+}
+
+/* n nodes, an odd number up to 255, and m steps that keep to every rule but
+ * perhaps to the ranges of n and m: 2i has the sides 2i + 1 and 2i + 2. */
+static void grow_calm(unsigned n, unsigned m)
+{
+    unsigned ends = (n + 1) / 2; /* still without their share of the steps */
+
+    nodes.length = steps.length = 0;
+    for (unsigned k = 0; k < n; k++, nodes.length += 16) {
+        struct node node = {.kind = (uint8_t)(chance(50) ? PAR_AND : SEQ_OR)};
+        if (k % 2 == 0 && k + 1 < n) {
+            node.left = (uint8_t)(k + 1);
+            node.right = (uint8_t)(k + 2);
+        } else {
+            calm_leaf(&node, m / ends);
+            m -= node.count;
+            ends--;
+        }
+        write_node(nodes.bytes + nodes.length, &node);
+        for (unsigned s = 0; s < node.count; s++, steps.length += 12) {
+            write_step(steps.bytes + steps.length, &node.steps[s]);
+        }
+    }
+}
+
+/* Counts at the ends of their ranges, and outside; no other rule is broken. */
+static void draw_calm(void)
+{
+    static const struct {
+        unsigned n, m;
+    } COUNTS[] = {{31, 512}, {31, 0},   {1, 0},    {17, 512},  {31, 511}, {31, 513}, {17, 513},
+                  {33, 0},   {33, 512}, {31, 768}, {31, 1024}, {63, 0},   {255, 0},  {255, 512}};
+    const unsigned which = chance(50) ? below(5) : between(5, 13);
+
+    grow_calm(COUNTS[which].n, COUNTS[which].m);
+    call_write_all(25);
+}
+
+/* Good records, and so many more that a count or the length of the file is the
+ * same again in 5, 8, 9, 10, 12 or 16 bits. */
+static void draw_wrapped(const struct file *good)
+{
+    static const unsigned NODES[] = {32, 64, 256, 512}, STEPS[] = {512, 1024, 4096};
+    unsigned pages;
+
+    switch (pick_weighted((const unsigned[]){50, 35, 15}, 3)) {
+    case 0:
+        more_nodes(NODES[below(4)]);
+        break;
+    case 1:
+        more_steps(STEPS[pick_weighted((const unsigned[]){50, 30, 20}, 3)]);
+        break;
+    default: /* 16 x 256 x pages + 12 x the rest = 65,536 */
+        pages = 4 + 3 * below(4);
+        more_nodes(256 * pages);
+        more_steps((65536 - 4096 * pages) / 12);
+        break;
+    }
+    if (chance(50)) {
+        call_write(good->length, 10);
+    } else {
+        call_write_all(10);
+    }
+}
+
+/* Counts out of range, by records taken away or records that the tree has no place
+ * for; other rules are broken too. */
+static void draw_counts(const struct file *good)
+{
+    const unsigned n = good->bytes[3];
+    const unsigned m = (unsigned)get(good->bytes + 4, 2);
+
+    switch (below(5)) {
+    case 0: /* no nodes */
+        nodes.length = 0;
+        steps.length = chance(50) ? steps.length : 0;
+        break;
+    case 1: /* no steps: in range, but rule 6 is broken where there is a leaf */
+        steps.length = 0;
+        break;
+    case 2:
+        more_nodes(32 - n);
+        break;
+    case 3:
+        more_steps(513 - m);
+        break;
+    default:
+        more_nodes(257 - n);
+        break;
+    }
+    call_write_all(30);
+}
+
+/* A length off by some bytes, within a record of the size. */
+static size_t off_by(size_t length, unsigned size)
+{
+    const unsigned by = chance(40) ? 1 : between(1, size - 1);
+
+    return length >= by && chance(50) ? length - by : length + by;
+}
+
+/* Buffers that aren't whole records; at times they are together as long as whole
+ * ones. What stands behind the records is left from earlier calls. */
+static void draw_pieces(const struct file *good)
+{
+    const size_t length = nodes.length + steps.length;
+
+    switch (below(4)) {
+    case 0:
+        nodes.length = off_by(nodes.length, 16);
+        break;
+    case 1:
+        steps.length = off_by(steps.length, 12);
+        break;
+    case 2:
+        nodes.length = off_by(nodes.length, 16);
+        steps.length = off_by(steps.length, 12);
+        break;
+    default:
+        nodes.length = off_by(nodes.length, 16);
+        steps.length = nodes.length > length ? 0 : length - nodes.length;
+        break;
+    }
+    if (chance(50)) {
+        call_write(good->length, 30);
+    } else {
+        call_write_all(30);
+    }
+}
+
+/* The records of a good file parted at another place: some records more or fewer
+ * on a side, or nodes for steps and steps for nodes. */
+static void draw_parted(const struct file *good)
+{
+    static const unsigned SIZES[] = {12, 16, 48};
+    const size_t length = nodes.length + steps.length;
+    const size_t size = SIZES[below(3)];
+    const size_t by = size * between(1, 3);
+    size_t first = nodes.length;
+
+    if (chance(20)) {
+        memcpy(nodes.bytes, good->bytes + 6 + first, length - first);
+        memcpy(steps.bytes, good->bytes + 6, first);
+        nodes.length = length - first;
+        steps.length = first;
+    } else {
+        first = chance(60) ? first + by : first > by ? first - by : 0;
+        first = first > length ? length : first;
+        memcpy(nodes.bytes, good->bytes + 6, first);
+        memcpy(steps.bytes, good->bytes + 6 + first, length - first);
+        nodes.length = first;
+        steps.length = length - first;
+    }
+    call_write_all(25);
+}
+
+/* A file with a broken rule taken apart, where its counts and length agree. */
+static void draw_broken_records(struct session *s, const struct file *good)
+{
+    guard_sets sets;
+
+    do {
+        break_good(&s->file, good);
+        sets = guard_check(s->file.bytes, s->file.length);
+    } while (sets.refusal >= 1 && sets.refusal <= 3);
+    take_apart(&s->file);
+    call_write_all(35);
+}
+
+/* Whole records of bytes by chance. */
+static void draw_noise_records(void)
+{
+    nodes.length = 16u * between(1, chance(80) ? 3 : MAX_N);
+    steps.length = 12u * below(6);
+    noise(nodes.bytes, nodes.length);
+    noise(steps.bytes, steps.length);
+    call_write_all(30);
+}
+
+static void draw_write(struct session *s)
+{
+    static const unsigned SHARES[] = {160, 45, 15, 8, 8, 12, 6, 10, 3};
+
+    draw_passing(s);
+    const struct file good = s->file;
+    for (unsigned times = between(1, 4); times > 0; times--) {
+        take_apart(&good);
+        switch (pick_weighted(SHARES, 9)) {
+        case 0:
+            call_write_all(15);
+            break;
+        case 1:
+            draw_broken_records(s, &good);
+            break;
+        case 2:
+            grow_wide(s);
+            take_apart(&s->file);
+            call_write_all(35);
+            break;
+        case 3:
+            draw_counts(&good);
+            break;
+        case 4:
+            draw_wrapped(&good);
+            break;
+        case 5:
+            draw_pieces(&good);
+            break;
+        case 6:
+            draw_parted(&good);
+            break;
+        case 7:
+            draw_calm();
+            break;
+        default:
+            draw_noise_records();
+            break;
+        }
+    }
+}
+
 int main(int argc, char **argv)
 {
     static struct session s;
-    static const unsigned SHARES[] = {38, 23, 9, 19, 7, 4};
+    static const unsigned SHARES[] = {38, 23, 9, 19, 7, 4, 24};
 
     if (argc != 3) {
         fputs("draw SEED COUNT\n", stderr);
@@ -1686,7 +2020,7 @@ int main(int argc, char **argv)
     seed_word = seed_word == 0 ? 1 : seed_word;
     calls_left = strtoul(argv[2], NULL, 10);
     while (calls_left > 0) {
-        switch (pick_weighted(SHARES, 6)) {
+        switch (pick_weighted(SHARES, 7)) {
         case 0:
             draw_run(&s);
             break;
@@ -1702,8 +2036,11 @@ int main(int argc, char **argv)
         case 4:
             draw_wide(&s);
             break;
-        default:
+        case 5:
             draw_noise(&s);
+            break;
+        default:
+            draw_write(&s);
             break;
         }
     }

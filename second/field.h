@@ -10,7 +10,7 @@
 
 /* A call: entry (1), three fields, action (1). A field: its length (2), big-endian,
  * and as many bytes. */
-enum { CHECK = 0, OPEN = 1, OFFER = 2, CLOSE = 3 };
+enum { CHECK = 0, OPEN = 1, OFFER = 2, CLOSE = 3, WRITE = 4 };
 enum { MAX_FIELD = 65535, MARGIN = 64, MARK = 0xA5 };
 
 struct field {

@@ -1,4 +1,4 @@
-/* guard.c: a policy guard written by hand from 01; sentences of 01 stand in quotation marks. */
+/* guard.c: a policy guard written by hand from 01, and 02's writer; their sentences stand in quotation marks. */
 #include "guard.h"
 
 #include <stdbool.h>
@@ -51,7 +51,7 @@ static inline bool set_has(guard_set a, uint8_t action)
 /* The file: "Big-endian, length first." It is read where the caller
  * keeps it; only facts that the file does not hold are kept beside it. */
 
-enum { HEADER_BYTES = 6, NODE_BYTES = 16, STEP_BYTES = 12, RECORD_BYTES = 8 };
+enum { HEADER_BYTES = 6, NODE_BYTES = 16, STEP_BYTES = 12, RECORD_BYTES = 8, VERSION = 1 };
 enum { MAX_STEPS = 512, MAX_LEAF_STEPS = 64, MAX_SPREAD = 255, MAX_ACTION = 63 };
 
 enum node_kind {
@@ -126,19 +126,30 @@ static inline bool is_and(unsigned kind)
 /* ------------------------------------------------------------------ */
 /* The check, rules 1 to 6.                                             */
 
+/* "nodes n, 1 to 31", "steps m, 0 to 512" */
+static bool in_range(size_t n, size_t m)
+{
+    return n >= 1 && n <= GUARD_MAX_NODES && m <= MAX_STEPS;
+}
+
+/* "Length is 6 + 16n + 12m, at most 6,646." */
+static size_t file_length(const struct policy *p)
+{
+    return HEADER_BYTES + (size_t)NODE_BYTES * p->n + (size_t)STEP_BYTES * p->m;
+}
+
 /* Rules 1 to 3: the six leading bytes and the length. */
 static uint8_t read_header(struct policy *p, const uint8_t *bytes, size_t length)
 {
     if (length < HEADER_BYTES || be16(bytes) != length) {
         return 1;
     }
-    if (bytes[2] != 1) {
+    if (bytes[2] != VERSION) {
         return 2;
     }
     p->n = bytes[3];
     p->m = be16(bytes + 4);
-    if (p->n < 1 || p->n > GUARD_MAX_NODES || p->m > MAX_STEPS ||
-        length != HEADER_BYTES + (size_t)NODE_BYTES * p->n + (size_t)STEP_BYTES * p->m) {
+    if (!in_range(p->n, p->m) || length != file_length(p)) {
         return 3;
     }
     p->nodes = bytes + HEADER_BYTES;
@@ -479,17 +490,14 @@ static uint8_t check_inner(struct policy *p, struct node_facts *facts)
     return interfere ? 9 : too_wide ? 10 : 0;
 }
 
-/* "Each rule is tried over the whole file." "The lowest number that applies is
- * given." Fills the view p; *effect is the root's effect set. */
-static uint8_t check_policy(struct policy *p, const uint8_t *bytes, size_t length,
-                            guard_set *effect)
+/* Rules 4 to 10. "Each rule is tried over the whole file." "The lowest number that
+ * applies is given." Fills the view p, whose records and counts are there already;
+ * *effect is the root's effect set. */
+static uint8_t check_records(struct policy *p, guard_set *effect)
 {
     struct node_facts facts[GUARD_MAX_NODES];
-    uint8_t refusal = read_header(p, bytes, length);
+    uint8_t refusal;
 
-    if (refusal != 0) {
-        return refusal;
-    }
     if (!layout_holds(p)) {
         return 4;
     }
@@ -505,6 +513,15 @@ static uint8_t check_policy(struct policy *p, const uint8_t *bytes, size_t lengt
     }
     *effect = facts[0].effect;
     return refusal;
+}
+
+/* Rules 1 to 10. Fills the view p; *effect is the root's effect set. */
+static uint8_t check_policy(struct policy *p, const uint8_t *bytes, size_t length,
+                            guard_set *effect)
+{
+    const uint8_t refusal = read_header(p, bytes, length);
+
+    return refusal != 0 ? refusal : check_records(p, effect);
 }
 
 /* ------------------------------------------------------------------ */
@@ -1017,4 +1034,63 @@ guard_answer guard_close(const uint8_t *policy, size_t policy_length,
     struct run g = {&p, state, events, 0, 0};
     (void)run_node(&g, 0, CLOSING_DOWN, 0);
     return settle(&g);
+}
+
+/* ------------------------------------------------------------------ */
+/* 02, Req 02: "produce the file with version, counts and length".      */
+
+/* Rule 3 of the file that would be written, "3 for a broken record too". The
+ * records are looked at where the caller keeps them. */
+static uint8_t lend_records(struct policy *p, const uint8_t *nodes, size_t nodes_length,
+                            const uint8_t *steps, size_t steps_length)
+{
+    const size_t n = nodes_length / NODE_BYTES;
+    const size_t m = steps_length / STEP_BYTES;
+
+    if (nodes_length % NODE_BYTES != 0 || steps_length % STEP_BYTES != 0 || !in_range(n, m)) {
+        return 3;
+    }
+    p->nodes = nodes;
+    p->steps = steps;
+    p->n = (unsigned)n;
+    p->m = (unsigned)m;
+    return 0;
+}
+
+static void put_file(uint8_t *out, const struct policy *p)
+{
+    const size_t length = file_length(p);
+    const size_t steps_at = HEADER_BYTES + (size_t)NODE_BYTES * p->n;
+
+    out[0] = (uint8_t)(length >> 8);
+    out[1] = (uint8_t)length;
+    out[2] = VERSION;
+    out[3] = (uint8_t)p->n;
+    out[4] = (uint8_t)(p->m >> 8);
+    out[5] = (uint8_t)p->m;
+    memcpy(out + HEADER_BYTES, p->nodes, steps_at - HEADER_BYTES);
+    if (p->m > 0) { /* with no steps their buffer may be a null pointer */
+        memcpy(out + steps_at, p->steps, length - steps_at);
+    }
+}
+
+guard_written guard_write(const uint8_t *nodes, size_t nodes_length,
+                          const uint8_t *steps, size_t steps_length,
+                          uint8_t *out, size_t out_length)
+{
+    struct policy p;
+    guard_set effect;
+    uint8_t refusal = lend_records(&p, nodes, nodes_length, steps, steps_length);
+
+    if (refusal == 0) {
+        refusal = check_records(&p, &effect);
+    }
+    if (refusal == 0 && out_length < file_length(&p)) {
+        refusal = 15; /* "when the lent output is shorter than the file, tried last" */
+    }
+    if (refusal != 0) {
+        return (guard_written){refusal, 0};
+    }
+    put_file(out, &p);
+    return (guard_written){0, (uint16_t)file_length(&p)};
 }

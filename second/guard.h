@@ -1,4 +1,4 @@
-/* guard.h: the four entry points of the policy guard of 01, over plain buffers with lengths. */
+/* guard.h: the four entry points of the policy guard of 01 and the writer of 02, over plain buffers with lengths. */
 #ifndef GUARD_H
 #define GUARD_H
 
@@ -44,8 +44,14 @@ typedef struct {
     uint16_t events;
 } guard_answer;
 
-/* The state and event buffers must not overlap each other or the policy.
- * A buffer of length 0 may be a null pointer. */
+/* refusal is 0 and length the file's, or refusal is 3 to 10 or 15 and length 0. */
+typedef struct {
+    uint8_t refusal;
+    uint16_t length;
+} guard_written;
+
+/* A buffer that is written to must not overlap another. A buffer of length 0 may
+ * be a null pointer. */
 
 /* Refusals 1 to 10. Writes nothing. */
 guard_sets guard_check(const uint8_t *policy, size_t policy_length);
@@ -64,6 +70,12 @@ guard_answer guard_offer(const uint8_t *policy, size_t policy_length,
 guard_answer guard_close(const uint8_t *policy, size_t policy_length,
                          uint8_t *state, size_t state_length,
                          uint8_t *events, size_t events_length);
+
+/* Writes the file of these records, "laid out as in the file". Refusals 3 to 10
+ * and 15; a refusal writes nothing, and "output bytes after the file stay". */
+guard_written guard_write(const uint8_t *nodes, size_t nodes_length,
+                          const uint8_t *steps, size_t steps_length,
+                          uint8_t *out, size_t out_length);
 
 #ifdef GUARD_TALLY
 /* Counts of inserts given to a right side, for the statistics of a draw only:

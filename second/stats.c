@@ -10,24 +10,25 @@ static struct field policy, state, events;
 
 static struct {
     unsigned long calls, answered, with_events, changing;
-    unsigned long entries[4], answered_by[4], refusals[15], statuses[7];
+    unsigned long entries[5], answered_by[5], refusals[15], statuses[7];
+    unsigned long write_refusals[16], short_refusals[16], room[3];
     unsigned long kinds[8], nodes[32], steps[6], step_kinds[9], status_by_node[7];
     unsigned long event_counts[12], event_kinds[4], most_events, verdict_halts;
 } seen;
 
 /* Nodes and steps of a policy that passed. */
-static void count_policy(void)
+static void count_policy(const uint8_t *file)
 {
-    const unsigned n = policy.bytes[3];
-    const unsigned m = (unsigned)policy.bytes[4] << 8 | policy.bytes[5];
+    const unsigned n = file[3];
+    const unsigned m = (unsigned)file[4] << 8 | file[5];
 
     seen.nodes[n]++;
     seen.steps[m == 0 ? 0 : m < 16 ? 1 : m < 64 ? 2 : m < 256 ? 3 : m < 512 ? 4 : 5]++;
     for (unsigned k = 0; k < n; k++) {
-        seen.kinds[policy.bytes[6 + 16 * k]]++;
+        seen.kinds[file[6 + 16 * k]]++;
     }
     for (unsigned s = 0; s < m; s++) {
-        seen.step_kinds[policy.bytes[6 + 16 * n + 12 * s]]++;
+        seen.step_kinds[file[6 + 16 * n + 12 * s]]++;
     }
 }
 
@@ -42,18 +43,39 @@ static unsigned bucket(unsigned count)
     return b;
 }
 
-static void count_answer(int entry, guard_answer answer, bool changed)
+/* What is counted of every entry; file is the policy of an answered call. */
+static bool count_call(int entry, uint8_t refusal, const uint8_t *file)
 {
     seen.calls++;
     seen.entries[entry]++;
-    seen.refusals[answer.refusal]++;
-    if (answer.refusal != 0) {
-        return;
+    if (refusal != 0) {
+        return false;
     }
     seen.answered++;
     seen.answered_by[entry]++;
-    count_policy();
-    if (entry == 0) {
+    count_policy(file);
+    return true;
+}
+
+/* A write, whose fields are nodes, steps and output. */
+static void count_write(void)
+{
+    const guard_written written = guard_write(policy.bytes, policy.length, state.bytes,
+                                              state.length, events.bytes, events.length);
+
+    seen.write_refusals[written.refusal]++;
+    if (6 + policy.length + state.length > events.length) {
+        seen.short_refusals[written.refusal]++;
+    }
+    if (count_call(WRITE, written.refusal, events.bytes)) {
+        seen.room[events.length == written.length ? 0 : events.length < MAX_FIELD ? 1 : 2]++;
+    }
+}
+
+static void count_answer(int entry, guard_answer answer, bool changed)
+{
+    seen.refusals[answer.refusal]++;
+    if (!count_call(entry, answer.refusal, policy.bytes) || entry == CHECK) {
         return;
     }
     seen.statuses[answer.status]++;
@@ -68,7 +90,7 @@ static void count_answer(int entry, guard_answer answer, bool changed)
         seen.event_kinds[events.bytes[2 * i]]++;
         verdict = verdict || events.bytes[2 * i] != GUARD_INSERTED;
     }
-    seen.verdict_halts += entry == 2 && !verdict;
+    seen.verdict_halts += entry == OFFER && !verdict;
 }
 
 static bool one_call(int entry)
@@ -80,15 +102,19 @@ static bool one_call(int entry)
         return false;
     }
     const int action = getchar();
+    if (entry == WRITE) {
+        count_write();
+        return true;
+    }
     for (size_t i = 0; i < state.length; i++) {
         before[i] = state.bytes[i];
     }
-    if (entry == 0) {
+    if (entry == CHECK) {
         answer.refusal = guard_check(policy.bytes, policy.length).refusal;
-    } else if (entry == 1) {
+    } else if (entry == OPEN) {
         answer = guard_open(policy.bytes, policy.length, state.bytes, state.length,
                             events.bytes, events.length);
-    } else if (entry == 2) {
+    } else if (entry == OFFER) {
         answer = guard_offer(policy.bytes, policy.length, state.bytes, state.length,
                              events.bytes, events.length, (uint8_t)action);
     } else {
@@ -117,16 +143,19 @@ static void print_row(const char *name, const unsigned long *counts, unsigned fr
 int main(void)
 {
     for (int entry = getchar(); entry != EOF; entry = getchar()) {
-        if (entry > 3 || !one_call(entry)) {
+        if (entry > WRITE || !one_call(entry)) {
             fputs("stats: broken input\n", stderr);
             return 1;
         }
     }
     printf("calls %lu, answered %lu, with events %lu, changing state or more than one event %lu\n",
            seen.calls, seen.answered, seen.with_events, seen.changing);
-    print_row("calls by entry (0 check, 1 open, 2 offer, 3 close)", seen.entries, 0, 3);
-    print_row("answered by entry", seen.answered_by, 0, 3);
-    print_row("refusals", seen.refusals, 1, 14);
+    print_row("calls by entry (0 check, 1 open, 2 offer, 3 close, 4 write)", seen.entries, 0, 4);
+    print_row("answered by entry", seen.answered_by, 0, 4);
+    print_row("refusals of entries 0 to 3", seen.refusals, 1, 14);
+    print_row("refusals of writes", seen.write_refusals, 1, 15);
+    print_row("refusals of writes whose output is too short", seen.short_refusals, 1, 15);
+    print_row("outputs of writes answered (0 exact, 1 longer, 2 the longest)", seen.room, 0, 2);
     print_row("root statuses answered", seen.statuses, 1, 5);
     print_row("events (1 acc, 2 sup, 3 ins)", seen.event_kinds, 1, 3);
     print_row("events per answered call, in 0 1 2 3 4 -7 -15 -31 -63 -127 -254 -256",

@@ -1,4 +1,4 @@
-/* test.c: 01's P1 to P11, its guardrun example and some edges, asserted against the guard. */
+/* test.c: 01's P1 to P11, its guardrun example and some edges, asserted against the guard; the writer, also on files it is named. */
 #include "guard.h"
 
 #include <stdio.h>
@@ -379,7 +379,211 @@ static void halting(void)
     SAYS(close_it(&s), "=3");
 }
 
-int main(void)
+/* A call of the writer on a file's records, with an output of so many bytes. */
+static uint8_t out[70000];
+
+static guard_written write_records(const uint8_t *nodes, size_t nodes_length,
+                                   const uint8_t *steps, size_t steps_length, size_t room)
+{
+    memset(out, 0xA5, sizeof out);
+    return guard_write(nodes, nodes_length, steps, steps_length, out, room);
+}
+
+static guard_written write_it(const struct file *f, size_t room)
+{
+    const size_t steps_at = 6 + 16u * f->bytes[3];
+
+    return write_records(f->bytes + 6, steps_at - 6, f->bytes + steps_at,
+                         f->length - steps_at, room);
+}
+
+static int unwritten_from(size_t from)
+{
+    while (from < sizeof out && out[from] == 0xA5) {
+        from++;
+    }
+    return from == sizeof out;
+}
+
+/* "every file that the check passes is written again byte for byte from its own
+ * records"; "Output bytes after the file stay"; a byte too short is refused. */
+static void writes_again(const struct file *f)
+{
+    static const size_t MORE[] = {0, 1, 300};
+
+    EXPECT(check(f).refusal == 0);
+    for (unsigned i = 0; i < 3; i++) {
+        const guard_written written = write_it(f, f->length + MORE[i]);
+        EXPECT(written.refusal == 0 && written.length == f->length);
+        EXPECT(memcmp(out, f->bytes, f->length) == 0);
+        EXPECT(unwritten_from(f->length));
+    }
+    for (size_t room = 0; room < f->length; room++) {
+        const guard_written written = write_it(f, room);
+        EXPECT(written.refusal == 15 && written.length == 0 && unwritten_from(0));
+    }
+}
+
+#define REFUSED(call, number)                                               \
+    do {                                                                    \
+        const guard_written written = (call);                               \
+        EXPECT(written.refusal == (number) && written.length == 0);         \
+        EXPECT(unwritten_from(0));                                          \
+    } while (0)
+
+/* The file is refused by the check, and by the writer whatever its output. */
+static void refuses(struct file *f, uint8_t refusal)
+{
+    finish(f);
+    EXPECT(check(f).refusal == refusal);
+    REFUSED(write_it(f, sizeof out), refusal);
+    REFUSED(write_it(f, f->length), refusal);
+    REFUSED(write_it(f, f->length - 1), refusal);
+    REFUSED(write_it(f, 0), refusal);
+}
+
+static void writes_small_policies(void)
+{
+    static const char WHICH[] = "LVvWTU";
+    struct file *f = &s.file;
+
+    for (unsigned i = 0; WHICH[i] != '\0'; i++) {
+        one(f, WHICH[i]);
+        writes_again(f);
+        two(f, 5, WHICH[i], 'W');
+        writes_again(f);
+        two(f, 7, 'L', WHICH[i]);
+        writes_again(f);
+    }
+}
+
+static void with_acase(struct file *f, uint64_t operand)
+{
+    start(f, 1);
+    node(f, 0, 1, 0, 0, 5, 0, BIT(0) | BIT(1));
+    step(f, 1, 0, 1, 4, 0);
+    step(f, 5, 0, 2, 3, operand);
+    step(f, 2, 0, 0, 0, 0);
+    step(f, 3, 0, 0, 0, 0);
+    step(f, 7, 0, 0, 0, 0);
+    finish(f);
+}
+
+static void refuses_rules_4_to_10(void)
+{
+    struct file *f = &s.file;
+
+    with_acase(f, BIT(1));
+    writes_again(f);
+    f->bytes[6] = 8;
+    refuses(f, 4);
+    one(f, 'L');
+    f->bytes[6 + 16 + 1] = 1;
+    refuses(f, 4);
+    two(f, 6, 'L', 'T');
+    f->bytes[6 + 2] = 1;
+    refuses(f, 5);
+    f->bytes[6 + 16] = 9; /* the lower number, in a later record */
+    refuses(f, 4);
+    one(f, 'L');
+    f->length -= 12;
+    refuses(f, 6);
+    one(f, 'L');
+    step(f, 7, 0, 0, 0, 0);
+    refuses(f, 6);
+    one(f, 'W');
+    f->bytes[6 + 16 + 3] = 1;
+    refuses(f, 7);
+    with_acase(f, BIT(0) | BIT(1));
+    refuses(f, 8);
+    two(f, 4, 'V', 'W');
+    refuses(f, 9);
+    spread(16, 10);
+    refuses(f, 10);
+    spread(15, 0);
+    writes_again(f);
+}
+
+/* "3 for a broken record too": lengths that aren't of whole records, also where
+ * they are together as long as whole ones. */
+static void refuses_broken_records(void)
+{
+    one(&s.file, 'L');
+    const uint8_t *nodes = s.file.bytes + 6, *steps = nodes + 16;
+
+    for (size_t n = 0; n <= 48; n++) {
+        for (size_t m = 0; m <= 72; m++) {
+            if (n % 16 != 0 || m % 12 != 0) {
+                REFUSED(write_records(nodes, n, steps, m, m % 2 == 0 ? sizeof out : 0), 3);
+            }
+        }
+    }
+    REFUSED(write_records(nodes, 0, steps, 60, sizeof out), 3);
+    REFUSED(write_records(NULL, 0, NULL, 0, 0), 3);
+}
+
+/* Counts at the ends of their ranges, and around; also such as are the same in
+ * a byte, and a length that is the same in two. */
+static void refuses_counts(void)
+{
+    static uint8_t nodes[16 * 4096], steps[12 * 5500];
+    struct file *f = &s.file;
+
+    start(f, 31);
+    for (unsigned k = 0; k < 31; k++) {
+        if (k % 2 == 0 && k < 30) {
+            node(f, k, 4, k + 1, k + 2, 0, 0, 0);
+        } else {
+            node(f, k, 1, 0, 0, 32, 0, BIT(0));
+            step(f, 1, 0, 1, 31, 0);
+            for (unsigned i = 1; i < 30; i++) {
+                step(f, 6, 0, i + 1, i + 1, 0);
+            }
+            step(f, 2, 0, 0, 0, 0);
+            step(f, 7, 0, 0, 0, 0);
+        }
+    }
+    finish(f);
+    EXPECT(f->length == 6646);
+    writes_again(f);
+
+    one(f, 'T');
+    memcpy(nodes, f->bytes + 6, 16);
+    EXPECT(write_records(nodes, 16, NULL, 0, sizeof out).refusal == 0);
+    REFUSED(guard_write(nodes, 16, NULL, 0, memset(out, 0xA5, sizeof out), 21), 15);
+    EXPECT(guard_write(nodes, 16, NULL, 0, NULL, 0).refusal == 15);
+    EXPECT(write_records(nodes, 16 * 31, NULL, 0, sizeof out).refusal == 4);
+    REFUSED(write_records(nodes, 16 * 32, NULL, 0, sizeof out), 3);
+    REFUSED(write_records(nodes, 16 * 33, NULL, 0, sizeof out), 3);
+    REFUSED(write_records(nodes, 16 * 257, NULL, 0, sizeof out), 3);
+    one(f, 'L');
+    memcpy(nodes, f->bytes + 6, 16);
+    for (unsigned i = 0; i < 5500; i++) {
+        memcpy(steps + 12 * i, f->bytes + 22 + (i < 5 ? 12 * i : 48), 12);
+    }
+    EXPECT(write_records(nodes, 16, steps, 12 * 5, sizeof out).refusal == 0);
+    EXPECT(write_records(nodes, 16, steps, 12 * 512, sizeof out).refusal == 6);
+    REFUSED(write_records(nodes, 16, steps, 12 * 513, sizeof out), 3);
+    REFUSED(write_records(nodes, 16, steps, 12 * 517, 82), 3);
+    REFUSED(write_records(nodes, 16 * 1025, steps, 12 * 4101, 82), 3); /* 65,536 bytes more */
+}
+
+/* A file named on the command line, as the samples' policies are. */
+static void writes_named(const char *name)
+{
+    struct file *f = &s.file;
+    FILE *from = fopen(name, "rb");
+
+    if (from == NULL) {
+        printf("%s can't be read\n", name);
+        exit(1);
+    }
+    f->length = fread(f->bytes, 1, sizeof f->bytes, from);
+    fclose(from);
+    writes_again(f);
+}
+
+int main(int argc, char **argv)
 {
     p1_to_p5();
     p6_to_p11();
@@ -389,6 +593,13 @@ int main(void)
     feeding();
     halting();
     EXPECT(guard_check(NULL, 0).refusal == 1);
+    writes_small_policies();
+    refuses_rules_4_to_10();
+    refuses_broken_records();
+    refuses_counts();
+    for (int i = 1; i < argc; i++) {
+        writes_named(argv[i]);
+    }
     printf("%u checks hold\n", checks);
     return 0;
 }

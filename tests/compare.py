@@ -5,8 +5,15 @@ Prints how many calls there are, how many of them are answered (in THEIRS, with 
 of the first that differ, counted from 0. Stops where an output has not just the bytes of all the calls' answers."""
 import sys
 
-CHECK, FIELDS = 0, 3                      # the entry that checks; policy, state, events
-CHECK_ANSWER, REPLY = 17, 4               # bytes of a check's answer, and of another's before its two buffers
+CHECK, WRITE, FIELDS = 0, 4, 3            # the entries that check and write; fields of a call
+CHECK_ANSWER, WRITTEN, REPLY = 17, 3, 4   # bytes of a check's answer, of a write's before its output, of another's before its two buffers
+
+
+def answer_size(entry, sizes):
+    """The size of the answer to a call of an entry, its fields having these sizes."""
+    if entry == CHECK:
+        return CHECK_ANSWER
+    return WRITTEN + sizes[2] if entry == WRITE else REPLY + sizes[1] + sizes[2]
 
 
 def answer_sizes(calls):
@@ -19,7 +26,7 @@ def answer_sizes(calls):
             sizes.append(int.from_bytes(calls[at:at + 2], "big"))
             at += 2 + sizes[-1]
         at += 1
-        yield CHECK_ANSWER if entry == CHECK else REPLY + sizes[1] + sizes[2]
+        yield answer_size(entry, sizes)
 
 
 def main(calls, ours, theirs):

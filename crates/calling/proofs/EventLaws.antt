@@ -1,34 +1,13 @@
 -- Events written one after another. Assumes nothing.
-use Prim.Native.Nat.{ℕ, suc, _+_, _*_, _≤_}
+use Prim.Native.Nat.{ℕ, _+_, _*_, _≤_}
 use native.Mathlib.Omega.{arith}
-use mathlib.Core.Path.{_≡_, refl, sym, ap, ap₂, _∙_}
+use mathlib.Core.Path.{_≡_, refl, sym, ap, _∙_}
 use mathlib.Core.List.{List, [], _∷_, _++_}
-use lib.ListN.{length, set, length-append}
-use lib.Seq.{sets}
+use lib.ListN.{length}
 use Rattle.policy.specs.Bytes.{Bytes, put}
-use Rattle.policy.proofs.ByteLaws.{put-length, put-sets}
+use Rattle.policy.proofs.ByteLaws.{put-append}
 use Rattle.turns.proofs.Bounds.{two-each}
 use Rattle.turns.specs.Events.{Event, accepted, suppressed, inserted, eventBytes}
-
--- ---- bytes put after bytes
-
-sets-append : (l : Bytes) (i : ℕ) (xs ys : Bytes) → sets (sets l i xs) (i + length xs) ys ≡ sets l i (xs ++ ys)
-sets-append l i [] ys = let e : i + 0 ≡ i = omega arith in ap (λ (k : ℕ). sets l k ys) e
-sets-append l i (x ∷ xs) ys =
-    let e : i + suc (length xs) ≡ suc i + length xs = omega arith in
-    ap (λ (k : ℕ). sets (sets (set l i x) (suc i) xs) k ys) e ∙ sets-append (set l i x) (suc i) xs ys
-
-pub put-append : (bs : Bytes) (i : ℕ) (xs : Bytes) (j : ℕ) (ys : Bytes) → j ≡ i + length xs → j + length ys ≤ length bs
-    → put (put bs i xs) j ys ≡ put bs i (xs ++ ys)
-put-append bs i xs j ys e h =
-    let g : i + length xs ≤ length bs = omega arith in
-    let k : j + length ys ≤ length (put bs i xs) = rw put-length h in
-    put-sets (put bs i xs) j ys k
-    ∙ ap₂ (λ (m : Bytes) (n : ℕ). sets m n ys) (put-sets bs i xs g) e
-    ∙ sets-append bs i xs ys
-    ∙ sym (put-sets bs i (xs ++ ys) (rw length-append (omega arith)))
-
--- ---- events
 
 bytes-append : (es fs : List Event) → eventBytes (es ++ fs) ≡ eventBytes es ++ eventBytes fs
 unfolding eventBytes

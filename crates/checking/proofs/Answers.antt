@@ -1,9 +1,11 @@
--- An answer is known by its meaning: no two answers of the check mean the same. Assumes nothing.
+-- An answer is known by its meaning: no two answers of the check mean the same, and each says what the check says. Assumes nothing.
 use Prim.Native.Nat.{ℕ}
-use mathlib.Core.Path.{_≡_, refl, sym, ap, ap₂}
+use mathlib.Core.Path.{_≡_, refl, sym, ap, ap₂, _∙_}
 use mathlib.Core.Bool.{Bool, true, false}
+use Rattle.actions.specs.declared.ActionSet.{ActionSet}
 use Rattle.actions.proofs.Tests.{true-not-false}
-use Rattle.rules.specs.Check.{Answer, passes, refused}
+use Rattle.policy.specs.Bytes.{Bytes}
+use Rattle.rules.specs.Check.{Answer, passes, refused, check}
 use Rattle.checking.specs.declared.Checked.{Checked}
 use Rattle.checking.specs.declared.Checked.the-variants.{Passed, Refused}
 use Rattle.checking.specs.Answers.{answered}
@@ -27,3 +29,14 @@ one-answer (Passed r e) (Passed s f) h =
 one-answer (Passed r e) (Refused n) h = true-not-false refl (ap isPass h)
 one-answer (Refused n) (Passed r e) h = true-not-false refl (ap isPass (sym h))
 one-answer (Refused n) (Refused m) h = ap (λ (x : ℕ). Refused x) (ap first h)
+
+-- ---- what the code's answer says of the check's
+
+module _ (policy : Bytes) {x : Checked} (e : answered x ≡ check policy) where
+  pub check-passes : {r f : ActionSet} → x ≡ Passed r f → check policy ≡ passes (r .bits) (f .bits)
+  unfolding answered
+  check-passes h = sym e ∙ ap answered h
+
+  pub check-refuses : {n : ℕ} → x ≡ Refused n → check policy ≡ refused n
+  unfolding answered
+  check-refuses h = sym e ∙ ap answered h

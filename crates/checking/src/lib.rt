@@ -1,7 +1,8 @@
 // The check: rules 1 to 10, each tried over the whole file, where the caller keeps it, before its answer counts. Rules 6 to 8 are tried in
 // one walk through each leaf.
 ghost use mathlib.Core.Path.{_≡_};
-ghost use Rattle.rules.specs.Check.{check};
+ghost use Prim.Native.Nat.{ℕ};
+ghost use Rattle.rules.specs.Check.{refused, check};
 ghost use Rattle.rules.specs.Interference.{leafEffects};
 ghost use Rattle.surveying.specs.Leaves.{insertsIn, Held};
 ghost use Rattle.checking.specs.Answers.{answered};
@@ -24,6 +25,16 @@ use surveying::walk_leaves;
 pub enum Checked {
     Passed(ActionSet, ActionSet),
     Refused(u8),
+}
+
+// The refusal's number; of a check that passed there is none.
+pub fn number(checked: Checked) -> u8
+    ensures { λ r. ⌜ ((k : ℕ) → answered checked ≡ refused k → r ≡ k) ⌝ }
+{
+    match checked {
+        Checked::Passed(_, _) => 0,
+        Checked::Refused(n) => n,
+    }
 }
 
 // Rules 9 and 10, and the answer. What the leaves' walks have found is in `leaves` and `inserts`.

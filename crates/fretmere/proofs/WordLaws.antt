@@ -11,7 +11,10 @@ use Rattle.turns.proofs.Bounds.{answered-emits}
 use Rattle.answering.specs.declared.Answer as guard
 use Rattle.answering.specs.declared.Answer.the-variants.{Answered, Refused}
 use Rattle.answering.specs.Replies.{spoken}
-use Rattle.fretmere.specs.Words.{Says, word, Few}
+use Rattle.writing.specs.Writing as writing
+use Rattle.writing.specs.Replies as replies
+use Rattle.writing.specs.declared.Written.the-variants as written
+use Rattle.fretmere.specs.Words.{Says, refusalWord, word, Few, sizeWord}
 
 pub answered-word : (n s : ℕ) (x : Reply) → Answered n s ≡ spoken x → s * 65536 + n ≡ word x
 unfolding spoken word
@@ -19,10 +22,10 @@ answered-word n s (answers k t) e =
     let a : n ≡ k = cc in let b : s ≡ statusNumber t = cc in omega arith
 answered-word n s (refuses k) e = cc
 
-pub refused-word : (k : ℕ) (x : Reply) → Refused k ≡ spoken x → k * 16777216 ≡ word x
+pub refused-word : (k : ℕ) (x : Reply) → Refused k ≡ spoken x → refusalWord k ≡ word x
 unfolding spoken word
 refused-word k (answers n s) e = cc
-refused-word k (refuses i) e = let a : k ≡ i = cc in omega arith
+refused-word k (refuses i) e = let a : k ≡ i = cc in ap refusalWord a
 
 few : (policy : Bytes) (q : Request) (state room : Bytes) (x : Reply) → entry policy q state room .reply ≡ x → Few (spoken x)
 unfolding spoken
@@ -40,3 +43,15 @@ passed-says {r} {e} x a b p = subst (λ (y : Checked). Says y 0 a b r e) p (refl
 
 pub refused-says : {k : ℕ} (x : Checked) (a b : ℕ) → refused k ≡ x → Says x k a b a b
 refused-says {k} x a b p = subst (λ (y : Checked). Says y k a b a b) p (refl, (refl, refl))
+
+-- ---- the writer's answer
+
+pub size-word : (n : ℕ) (x : writing.Reply) → written.Wrote n ≡ replies.spoken x → n ≡ sizeWord x
+unfolding replies.spoken sizeWord
+size-word n (writing.wrote k) e = cc
+size-word n (writing.refuses k) e = cc
+
+pub refused-size : (k : ℕ) (x : writing.Reply) → written.Refused k ≡ replies.spoken x → refusalWord k ≡ sizeWord x
+unfolding replies.spoken sizeWord
+refused-size k (writing.wrote n) e = cc
+refused-size k (writing.refuses i) e = let a : k ≡ i = cc in ap refusalWord a

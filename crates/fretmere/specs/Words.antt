@@ -7,16 +7,21 @@ use Rattle.turns.specs.Status.{statusNumber}
 use Rattle.turns.specs.Entries.{Reply, answers, refuses, Result}
 use Rattle.answering.specs.declared.Answer as guard
 use Rattle.answering.specs.declared.Answer.the-variants.{Answered, Refused}
+use Rattle.writing.specs.Writing as writing
 
 -- The check: zero and both sets, or the refusal's number, and then both stay as they were.
 abbrev pub Says : Answer → ℕ → (a b a′ b′ : ℕ) → Type 0
 Says (passes r e) n a b a′ b′ = (n ≡ 0) × ((a′ ≡ r) × (b′ ≡ e))
 Says (refused k) n a b a′ b′ = (n ≡ k) × ((a′ ≡ a) × (b′ ≡ b))
 
--- The others: the refusal in the highest byte, or the root's status in the byte below it and the number of events in the rest.
+-- a refusal of the others, in the highest byte
+abbrev pub refusalWord : ℕ → ℕ
+refusalWord k = 16777216 * k
+
+-- The others: a refusal, or the root's status in the byte below the highest and the number of events in the rest.
 unfoldable pub word : Reply → ℕ
 word (answers n s) = 65536 * statusNumber s + n
-word (refuses k) = 16777216 * k
+word (refuses k) = refusalWord k
 
 -- an answer whose events can be counted in the word
 abbrev pub Few : guard.Answer → Type 0
@@ -28,3 +33,13 @@ pub record Gave (x : Result) (r : ℕ) (bytes room : Bytes) : Type 0 where
   pub answer : r ≡ word (x .reply)
   pub state : bytes ≡ x .state
   pub events : room ≡ x .events
+
+-- The writer: a refusal, or the length of the file.
+unfoldable pub sizeWord : writing.Reply → ℕ
+sizeWord (writing.wrote n) = n
+sizeWord (writing.refuses k) = refusalWord k
+
+-- just this: the word, and every byte of the lent output
+pub record Produced (x : writing.Result) (r : ℕ) (bytes : Bytes) : Type 0 where
+  pub answer : r ≡ sizeWord (x .reply)
+  pub out : bytes ≡ x .out

@@ -1,15 +1,19 @@
-// The static library for C: the four entry points on the caller's buffers, each answer in one word.
+// The static library for C: the four entry points and the writer on the caller's buffers, each answer in one word.
 ghost use mathlib.Core.Path.{_≡_};
 ghost use Rattle.rules.specs.Check.{check};
 ghost use Rattle.turns.specs.Entries.{Reply, opens, offers, closes};
 ghost use Rattle.answering.specs.Replies.{spoken};
-ghost use Rattle.fretmere.specs.Words.{Says, Few, word, Gave};
+ghost use Rattle.writing.specs.Writing as writing;
+ghost use Rattle.writing.specs.Replies as replies;
+ghost use Rattle.fretmere.specs.Words.{Says, refusalWord, Few, word, Gave, sizeWord, Produced};
 use answering::Answer;
 use checking::Checked;
 use checking::check;
 use guard::close;
 use guard::offer;
 use guard::open;
+use writing::Written;
+use writing::write;
 
 // Zero, and the two sets written; or the refusal's number, and nothing written.
 #[no_mangle]
@@ -27,14 +31,21 @@ pub extern "C" fn fretmere_check(policy: &[u8], regulated: &mut u64, effects: &m
     }
 }
 
-// An answer in one word: the refusal in its highest byte, or the status in the byte below it and the number of events in the rest.
+// A refusal in one word: in its highest byte.
+fn refused(number: u8) -> u32
+    ensures { λ r. ⌜ r ≡ refusalWord number ⌝ }
+{
+    number as u32 * 16777216
+}
+
+// An answer in one word: a refusal, or the status in the byte below the highest and the number of events in the rest.
 fn packed(answer: Answer) -> u32
     requires { ⌜ Few answer ⌝ }
     ensures { λ r. ⌜ ((x : Reply) → answer ≡ spoken x → r ≡ word x) ⌝ }
 {
     match answer {
         Answer::Answered(events, status) => status as u32 * 65536 + events as u32,
-        Answer::Refused(number) => number as u32 * 16777216,
+        Answer::Refused(number) => refused(number),
     }
 }
 
@@ -62,4 +73,21 @@ pub extern "C" fn fretmere_close(policy: &[u8], state: &mut [u8], events: &mut [
     ensures { λ r. ⌜ Gave (closes (now (policy .entry)) (now (state .entry)) (now (events .entry))) r (now (state .exit)) (now (events .exit)) ⌝ }
 {
     packed(close(policy, state, events))
+}
+
+// The writer's answer in one word: a refusal, or the length of the file.
+fn packed_size(written: Written) -> u32
+    ensures { λ r. ⌜ ((x : writing.Reply) → written ≡ replies.spoken x → r ≡ sizeWord x) ⌝ }
+{
+    match written {
+        Written::Wrote(length) => length as u32,
+        Written::Refused(number) => refused(number),
+    }
+}
+
+#[no_mangle]
+pub extern "C" fn fretmere_write(nodes: &[u8], steps: &[u8], out: &mut [u8]) -> u32
+    ensures { λ r. ⌜ Produced (writing.writes (now (nodes .entry)) (now (steps .entry)) (now (out .entry))) r (now (out .exit)) ⌝ }
+{
+    packed_size(write(nodes, steps, out))
 }

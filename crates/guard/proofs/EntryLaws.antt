@@ -7,14 +7,10 @@ use lib.Dec.{T}
 use lib.ListN.{length}
 use borrow.Author.Tests.{lt-leb, le-leb}
 use Rattle.actions.specs.Sets.{isAction}
-use Rattle.actions.specs.declared.ActionSet.{ActionSet}
 use Rattle.actions.proofs.Tests.{not-not}
 use Rattle.policy.specs.Bytes.{Bytes}
 use Rattle.rules.specs.Check.{passes, refused, check}
 use Rattle.rules.proofs.Passed.{passed}
-use Rattle.checking.specs.declared.Checked.{Checked}
-use Rattle.checking.specs.declared.Checked.the-variants.{Passed, Refused}
-use Rattle.checking.specs.Answers.{answered}
 use Rattle.turns.specs.Turn.{Request, close}
 use Rattle.turns.specs.Saved.{fits}
 use Rattle.turns.specs.Entries.{Result, refusal, carriedOut, broken11, broken12, broken13, Refusal, refusals, unless, entry}
@@ -41,17 +37,6 @@ no-action a h = ap not (lt-leb a 63 h)
 pub an-action : (a : ℕ) → a ≤ 63 → broken13 a ≡ false
 unfolding broken13 isAction
 an-action a h = ap not (le-leb a 63 h)
-
--- ---- the check's answer
-
-module _ (policy : Bytes) {x : Checked} (e : answered x ≡ check policy) where
-  pub check-passes : {r f : ActionSet} → x ≡ Passed r f → check policy ≡ passes (r .bits) (f .bits)
-  unfolding answered
-  check-passes h = sym e ∙ ap answered h
-
-  pub check-refuses : {n : ℕ} → x ≡ Refused n → check policy ≡ refused n
-  unfolding answered
-  check-refuses h = sym e ∙ ap answered h
 
 -- ---- what carrying a call out asks
 

@@ -2,7 +2,6 @@
 ghost use Rattle.turns.specs.Entries.{opens, offers, closes};
 ghost use Rattle.answering.specs.Replies.{Gave};
 use crate::refusals::halted;
-use crate::refusals::number;
 use crate::refusals::short;
 use crate::refusals::unfit;
 use answering::Answer;
@@ -10,6 +9,7 @@ use calling::Call;
 use calling::carry_out;
 use checking::Checked;
 use checking::check;
+use checking::number;
 
 mod refusals;
 

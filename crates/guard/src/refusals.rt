@@ -1,27 +1,13 @@
-// Refusals 11, 12 and 14, and the number of a refused check.
+// Refusals 11, 12 and 14.
 ghost use mathlib.Core.Path.{_≡_};
-ghost use Prim.Native.Nat.{ℕ};
 ghost use lib.ListN.{length};
-ghost use Rattle.rules.specs.Check.{refused};
 ghost use Rattle.rules.specs.Passed.{Passed};
-ghost use Rattle.checking.specs.Answers.{answered};
 ghost use Rattle.turns.specs.Saved.{stateSize};
 ghost use Rattle.turns.specs.Entries.{broken11, broken12, broken14};
-use checking::Checked;
 use fitting::fits;
 use reading::byte;
 use views::nodes_of;
 use views::steps_of;
-
-// The refusal's number; of a check that passed there is none.
-pub fn number(checked: Checked) -> u8
-    ensures { λ r. ⌜ ((k : ℕ) → answered checked ≡ refused k → r ≡ k) ⌝ }
-{
-    match checked {
-        Checked::Passed(_, _) => 0,
-        Checked::Refused(n) => n,
-    }
-}
 
 // 11: "state buffer is not 248 bytes, or event buffer is under 512"
 pub fn short(state: &[u8], events: &[u8]) -> bool

@@ -2,7 +2,7 @@
 use Prim.Native.Nat.{ℕ, zero, suc, _+_, _-_, _*_, _/_, _%_, _^_, _≤_, _<_}
 use native.Mathlib.Nat.{one-le-pow, zero-lt-suc, pow-succ', mod-eq-of-lt, mod-lt, mod-one, add-mul, mul-assoc, add-assoc, mul-add-mod-self-right}
 use native.Mathlib.Omega.{arith}
-use mathlib.Core.Path.{_≡_, refl, sym, ap, _∙_}
+use mathlib.Core.Path.{_≡_, refl, sym, ap, ap₂, _∙_}
 use mathlib.Core.List.{List, [], _∷_, _++_, append-assoc}
 use lib.Arith.{digits-lt, digits-div, mod-mul}
 use lib.Dec.{T, eqb, eqb→eq}
@@ -93,6 +93,23 @@ number-part bs i n k size h f = ap (spelt 0) (part-part bs i n k size h f)
 pub put-sets : (bs : Bytes) (i : ℕ) (over : Bytes) → i + length over ≤ length bs → put bs i over ≡ sets bs i over
 unfolding put
 put-sets bs i over h = sym (append-assoc (take i bs) over (drop (i + length over) bs)) ∙ sym (sets-eq over bs i h)
+
+-- bytes put after bytes
+sets-append : (l : Bytes) (i : ℕ) (xs ys : Bytes) → sets (sets l i xs) (i + length xs) ys ≡ sets l i (xs ++ ys)
+sets-append l i [] ys = let e : i + 0 ≡ i = omega arith in ap (λ (k : ℕ). sets l k ys) e
+sets-append l i (x ∷ xs) ys =
+    let e : i + suc (length xs) ≡ suc i + length xs = omega arith in
+    ap (λ (k : ℕ). sets (sets (set l i x) (suc i) xs) k ys) e ∙ sets-append (set l i x) (suc i) xs ys
+
+pub put-append : (bs : Bytes) (i : ℕ) (xs : Bytes) (j : ℕ) (ys : Bytes) → j ≡ i + length xs → j + length ys ≤ length bs
+    → put (put bs i xs) j ys ≡ put bs i (xs ++ ys)
+put-append bs i xs j ys e h =
+    let g : i + length xs ≤ length bs = omega arith in
+    let k : j + length ys ≤ length (put bs i xs) = rw put-length h in
+    put-sets (put bs i xs) j ys k
+    ∙ ap₂ (λ (m : Bytes) (n : ℕ). sets m n ys) (put-sets bs i xs g) e
+    ∙ sets-append bs i xs ys
+    ∙ sym (put-sets bs i (xs ++ ys) (rw length-append (omega arith)))
 
 -- two runs that do not meet, in either order
 set-sets : (l : Bytes) (i a j : ℕ) (ys : Bytes) → i < j → sets (set l i a) j ys ≡ set (sets l j ys) i a

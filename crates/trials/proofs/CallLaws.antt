@@ -12,7 +12,10 @@ use Rattle.turns.specs.Turn.{Request, opening, offer, close}
 use Rattle.turns.specs.Entries.{entry}
 use Rattle.answering.specs.Replies.{Gave}
 use Rattle.answering.specs.declared.Answer.{Answer}
-use Rattle.trials.specs.Calls.{fieldEnd, policyEnd, stateEnd, eventsEnd, longest, Placed, part, policyIn, stateIn, eventsIn, request, called, Found, Taken, replyBytes, Answers}
+use Rattle.writing.specs.Writing as writing
+use Rattle.writing.specs.Replies as replies
+use Rattle.writing.specs.declared.Written.{Written}
+use Rattle.trials.specs.Calls.{fieldEnd, policyEnd, stateEnd, eventsEnd, longest, Placed, part, policyIn, stateIn, eventsIn, request, called, fileCalled, Found, Taken, replyBytes, Answers, sizeBytes, Wrote}
 use Rattle.trials.specs.declared.calls.Parts.{Parts}
 use Rattle.trials.specs.declared.calls.Call.{Call}
 use Rattle.trials.specs.declared.calls.Call.the-variants.{Whole, Short}
@@ -145,4 +148,20 @@ made bs c s e s′ e′ x y reply m n a p ms sp mi ne ep ni g ls le rb =
       reply = rb ∙ ap replyBytes (q .answer);
       state = front s′ x (c .state - (c .policy + 2)) m (sym ms) (ls ∙ length-take-le m s mi) ∙ q .state;
       events = front e′ y (c .events - (c .state + 2)) n (sym ne) (le ∙ length-take-le n e ni) ∙ q .events;
+    }
+
+-- a call of the writer on its own parts
+pub made-file : (bs : Bytes) (c : Parts) (o o′ x reply : Bytes) (n : ℕ) (w : Written) → Placed bs c
+    → n ≡ c .events - (c .state + 2) → take n o ≡ part (c .state + 2) (c .events) bs → n ≤ length o
+    → replies.Gave (writing.writes (part 3 (c .policy) bs) (part (c .policy + 2) (c .state) bs) (take n o)) w o′ → length o′ ≡ length (take n o)
+    → reply ≡ sizeBytes w
+    → Wrote (fileCalled bs) reply (take (c .events - (c .state + 2)) (o′ ++ x))
+unfolding fileCalled
+made-file bs c o o′ x reply n w p e f h g l r =
+    let q = subst (λ (z : Bytes). replies.Gave (writing.writes z (part (c .policy + 2) (c .state) bs) (take n o)) w o′) (policy-part bs c p) g in
+    let q = subst (λ (z : Bytes). replies.Gave (writing.writes (policyIn bs) z (take n o)) w o′) (state-part bs c p) q in
+    let q = subst (λ (z : Bytes). replies.Gave (writing.writes (policyIn bs) (stateIn bs) z) w o′) (f ∙ events-part bs c p) q in
+    record {
+      reply = r ∙ ap sizeBytes (q .answer);
+      out = front o′ x (c .events - (c .state + 2)) n (sym e) (l ∙ length-take-le n o h) ∙ q .out;
     }

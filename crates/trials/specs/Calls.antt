@@ -12,6 +12,10 @@ use Rattle.turns.specs.Entries.{Result, entry}
 use Rattle.answering.specs.Replies.{spoken}
 use Rattle.answering.specs.declared.Answer as guard
 use Rattle.answering.specs.declared.Answer.the-variants.{Answered, Refused}
+use Rattle.writing.specs.Writing as writing
+use Rattle.writing.specs.Replies as replies
+use Rattle.writing.specs.declared.Written.{Written}
+use Rattle.writing.specs.declared.Written.the-variants as written
 use Rattle.trials.specs.declared.calls.Parts.{Parts}
 use Rattle.trials.specs.declared.calls.Call.{Call}
 use Rattle.trials.specs.declared.calls.Call.the-variants.{Whole, Short}
@@ -74,6 +78,10 @@ request n a = elim (eqb n 1) [ true ↦ opening | false ↦ elim (eqb n 2) [ tru
 unfoldable pub called : Bytes → Result
 called bs = entry (policyIn bs) (request (number bs 0 1) (number bs (eventsEnd bs) 1)) (stateIn bs) (eventsIn bs)
 
+-- entry 4 writes a file: nodes, steps and output are given in place of the policy, the state and the event buffer
+unfoldable pub fileCalled : Bytes → writing.Result
+fileCalled bs = writing.writes (policyIn bs) (stateIn bs) (eventsIn bs)
+
 -- of a call of which `have` bytes have been read; short of more bytes than those, none of which is past the call's end
 unfoldable pub Found : Bytes → ℕ → Call → Type 0
 Found bs have (Whole c) = (eventsEnd bs < have) × Placed bs c
@@ -98,3 +106,12 @@ pub record Answers (x : Result) (r saved room : Bytes) : Type 0 where
   pub reply : r ≡ replyBytes (spoken (x .reply))
   pub state : saved ≡ x .state
   pub events : room ≡ x .events
+
+-- "refusal (1), length (2), output"
+unfoldable pub sizeBytes : Written → Bytes
+sizeBytes (written.Wrote n) = 0 ∷ spell 2 n
+sizeBytes (written.Refused n) = n ∷ 0 ∷ 0 ∷ []
+
+pub record Wrote (x : writing.Result) (r room : Bytes) : Type 0 where
+  pub reply : r ≡ sizeBytes (replies.spoken (x .reply))
+  pub out : room ≡ x .out

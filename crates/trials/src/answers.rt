@@ -7,7 +7,7 @@ ghost use mathlib.Core.List.{_∷_, _++_};
 ghost use Rattle.policy.specs.Bytes.{spell};
 ghost use Rattle.turns.specs.Entries.{entry};
 ghost use Rattle.answering.specs.Replies.{Gave};
-ghost use Rattle.trials.specs.Calls.{longestField, Placed, part, policyIn, request, called, answerBytes, replyBytes, Answers};
+ghost use Rattle.trials.specs.Calls.{longestField, Placed, part, policyIn, request, called, fileCalled, answerBytes, replyBytes, sizeBytes, Answers, Wrote};
 use crate::calls::Parts;
 use answering::Answer;
 use checking::Checked;
@@ -15,6 +15,8 @@ use checking::check;
 use guard::close;
 use guard::offer;
 use guard::open;
+use writing::Written;
+use writing::write;
 
 // A refusal number and two sets, the highest byte first.
 fn spell(refusal: u8, x: u64, y: u64) -> [u8; 17]
@@ -112,4 +114,32 @@ pub fn call_answer(batch: &[u8], parts: Parts, state: &mut [u8], events: &mut [u
         parts.action,
     );
     reply_bytes(answer)
+}
+
+// An answer of the writer, the length's highest byte first.
+fn size_bytes(written: Written) -> [u8; 3]
+    ensures { λ r. ⌜ r ≡ sizeBytes written ⌝ }
+{
+    match written {
+        Written::Wrote(length) => [0, ((length >> 8) % 256) as u8, ((length >> 0) % 256) as u8],
+        Written::Refused(n) => [n, 0, 0],
+    }
+}
+
+// Calls the writer on a copy of the call's output, which is left at the start of `out`.
+pub fn file_answer(batch: &[u8], parts: Parts, out: &mut [u8]) -> [u8; 3]
+    requires { ⌜ Placed (now batch) parts × (longestField ≤ length (now out)) ⌝ }
+    ensures { λ r. ⌜ Wrote (fileCalled (now (batch .entry))) r (take (parts .events - (parts .state + 2)) (now (out .exit))) ⌝ }
+{
+    let nodes_end = parts.policy;
+    let steps_from = nodes_end + 2;
+    let steps_end = parts.state;
+    let out_end = parts.events;
+    let of_out = load(batch, steps_end + 2, out_end, out);
+    let written = write(
+        &batch[3..nodes_end],
+        &batch[steps_from..steps_end],
+        &mut out[..of_out],
+    );
+    size_bytes(written)
 }

@@ -5,6 +5,7 @@ ghost use Prim.Native.Nat.{_≤_};
 ghost use lib.ListN.{length};
 ghost use Rattle.trials.specs.Calls.{longest, longestField, Placed, Taken};
 use crate::answers::call_answer;
+use crate::answers::file_answer;
 use crate::answers::policy_answer;
 use crate::calls::Call;
 use crate::calls::Parts;
@@ -57,6 +58,17 @@ fn write_call(batch: &[u8], parts: Parts, state: &mut [u8], events: &mut [u8]) -
     reply & saved & told
 }
 
+// The same of a call of the writer.
+fn write_file(batch: &[u8], parts: Parts, out: &mut [u8]) -> bool
+    requires { ⌜ Placed (now batch) parts × (longestField ≤ length (now out)) ⌝ }
+{
+    let of_out = parts.events - (parts.state + 2);
+    let bytes = file_answer(batch, parts, out);
+    let reply = io::write_all(STDOUT_FILENO, &bytes);
+    let told = io::write_all(STDOUT_FILENO, &out[..of_out]);
+    reply & told
+}
+
 // Writes the answer, and says whether there was one.
 fn answer(batch: &[u8], parts: Parts, state: &mut [u8], events: &mut [u8]) -> bool
     requires { ⌜ Placed (now batch) parts × (longestField ≤ length (now state)) × (longestField ≤ length (now events)) ⌝ }
@@ -68,6 +80,7 @@ fn answer(batch: &[u8], parts: Parts, state: &mut [u8], events: &mut [u8]) -> bo
             io::write_all(STDOUT_FILENO, &bytes)
         }
         1..=3 => write_call(batch, parts, state, events),
+        4 => write_file(batch, parts, events),
         _ => false,
     }
 }

@@ -4,11 +4,12 @@ use mathlib.Core.Path.{sym, ap, _∙_}
 use borrow.Author.Needs.{needs}
 use Rattle.rules.proofs.Passed.{passed}
 use Rattle.checking.specs.Answers.{answered}
+use Rattle.checking.proofs.Answers.{check-passes, check-refuses}
 use Rattle.turns.specs.Turn as spec
 use Rattle.turns.specs.Entries.{refusals, offers}
 use Rattle.calling.specs.declared.Call.the-variants.{Offer}
 use Rattle.calling.specs.Calls.{asked, readable}
-use Rattle.guard.proofs.EntryLaws.{check-passes, check-refuses, allowed, room-enough, state-fits, no-action, an-action}
+use Rattle.guard.proofs.EntryLaws.{allowed, room-enough, state-fits, no-action, an-action}
 use Rattle.guard.proofs.EntryLaws.{refused-file, all-left, refused-here, next-left, none-left}
 use Rattle.guard.proofs.offer.Statement.{statement}
 use Rattle.guard.proofs.offer.Tie as tie

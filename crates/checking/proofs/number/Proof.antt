@@ -1,9 +1,9 @@
 -- `number` meets its contract: a check that passed has no number. Assumes nothing.
 use mathlib.Core.Path.{sym, ap, _∙_}
 use borrow.Author.Needs.{needs}
 use Rattle.checking.specs.Answers.{answered}
-use Rattle.guard.proofs.refusals.number.Statement.{statement}
-use Rattle.guard.proofs.refusals.number.Tie as tie
+use Rattle.checking.proofs.number.Statement.{statement}
+use Rattle.checking.proofs.number.Tie as tie
 
 returns : tie.Need-returns
 unfolding answered

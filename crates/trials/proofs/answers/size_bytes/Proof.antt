@@ -1,0 +1,26 @@
+-- `size_bytes` meets its contract. Assumes nothing.
+use mathlib.Core.Path.{ap, sym}
+use Rattle.policy.specs.Bytes.{spell}
+use Rattle.trials.specs.Calls.{sizeBytes}
+use borrow.Author.Needs.{needs}
+use Rattle.trials.proofs.answers.size_bytes.Statement.{statement}
+use Rattle.trials.proofs.answers.size_bytes.Tie as tie
+
+returns : tie.Need-returns
+unfolding sizeBytes spell
+returns c = ap sizeBytes (sym (c .before .written .given .1))
+
+returns-2 : tie.Need-returns-2
+unfolding sizeBytes
+returns-2 c = ap sizeBytes (sym (c .before .written2 .given .1))
+
+pub size-bytes-spec : {M : Type 1} → statement M
+size-bytes-spec =
+    tie.close
+    (tie.spec
+    (λ c. search needs)
+    (λ c. search needs)
+    (λ c. search needs)
+    (λ c. search needs)
+    returns
+    returns-2)

@@ -1,0 +1,98 @@
+-- "every file that the check passes is written again byte for byte from its own records". Assumes nothing.
+use Prim.Native.Nat.{ℕ, suc, _+_, _*_, _≤_, _<_}
+use native.Mathlib.Omega.{arith}
+use mathlib.Core.Path.{_≡_, sym, ap, ap₂, _∙_, subst}
+use mathlib.Core.Bool.{not}
+use mathlib.Core.List.{_∷_, _++_}
+use lib.Dec.{eqb, eqb→eq, ltb}
+use lib.ListN.{length, take, drop, length-drop, take-append-drop}
+use lib.Seq.{take-all, drop-cons, drop-drop, length-take-le}
+use borrow.Author.Tests.{le-ltb}
+use Rattle.actions.specs.Sets.{ActionSet}
+use Rattle.actions.proofs.Tests.{not-not, or-false-right}
+use Rattle.policy.specs.Bytes.{Bytes, spelt, number, spell, put}
+use Rattle.policy.specs.Records.{nodeSize, stepSize, lengthField, versionField, nodeCount, stepCount, nodePlace, rowPlace}
+use Rattle.policy.specs.Parts.{file}
+use Rattle.policy.proofs.ByteLaws.{Small, small-take, small-drop, spell-spelt}
+use Rattle.policy.proofs.NumberLaws.{number-byte}
+use Rattle.rules.specs.Layout.{broken1, broken2}
+use Rattle.rules.specs.Passed.{Passed}
+use Rattle.rules.specs.Check.{Answer, passes, check}
+use Rattle.rules.proofs.Rows.{CountsFit, counts-fit}
+use Rattle.rules.proofs.Passed.{passed}
+use Rattle.writing.specs.Writing.{holds, written, wrote, laid, after, writes}
+use Rattle.writing.specs.Lent.{nodeBytes, stepBytes, Lent}
+use Rattle.writing.proofs.Files.{holds-is, by-check}
+use Rattle.writing.proofs.ReadBack.{node-bytes-length, step-bytes-length}
+
+module _ (made : Bytes) (small : Small made) where
+  -- a number read at place i, spelt again before what follows it
+  spelt-on : (i k : ℕ) → i + k ≤ length made → spell k (number made i k) ++ drop (i + k) made ≡ drop i made
+  unfolding number
+  spelt-on i k h =
+      let part : Bytes = take k (drop i made) in
+      let e : length part ≡ k = length-take-le k (drop i made) (simp length-drop (omega arith)) in
+      let s : spell k (spelt 0 part) ≡ part = subst (λ (j : ℕ). spell j (spelt 0 part) ≡ part) e (spell-spelt 0 part (small-take k (drop i made) (small-drop i made small))) in
+      ap₂ _++_ s (sym (drop-drop k i made)) ∙ take-append-drop k (drop i made)
+
+  -- the same of a byte
+  byte-on : (i : ℕ) → i < length made → number made i 1 ∷ drop (suc i) made ≡ drop i made
+  byte-on i h = ap (λ (b : ℕ). b ∷ drop (suc i) made) (number-byte made i h) ∙ sym (drop-cons made i 0 h)
+
+  module _ (ok : Passed made) where
+    c : CountsFit made
+    c = counts-fit made (ok .kept3)
+
+    sized : lengthField made ≡ length made
+    unfolding broken1
+    sized = eqb→eq (lengthField made) (length made) (not-not (eqb (lengthField made) (length made)) (or-false-right (ltb (length made) 6) (not (eqb (lengthField made) (length made))) (ok .kept1)))
+
+    versioned : versionField made ≡ 1
+    unfolding broken2
+    versioned = eqb→eq (versionField made) 1 (not-not (eqb (versionField made) 1) (ok .kept2))
+
+    nodes-held : holds nodeSize (nodeBytes made) ≡ nodeCount made
+    nodes-held = holds-is nodeSize (nodeCount made) (nodeBytes made) (omega arith) (node-bytes-length made c)
+
+    steps-held : holds stepSize (stepBytes made) ≡ stepCount made
+    steps-held = holds-is stepSize (stepCount made) (stepBytes made) (omega arith) (step-bytes-length made c)
+
+    joined : nodeBytes made ++ stepBytes made ≡ drop 6 made
+    unfolding nodeBytes stepBytes rowPlace nodePlace
+    joined =
+        let n : ℕ = nodeSize * nodeCount made in
+        let m : ℕ = stepSize * stepCount made in
+        let s : take m (drop (6 + n) made) ≡ drop (6 + n) made = take-all m (drop (6 + n) made) (simp length-drop (omega (arith, c .long))) in
+        ap (λ (zs : Bytes). take n (drop 6 made) ++ zs) (s ∙ sym (drop-drop n 6 made)) ∙ take-append-drop n (drop 6 made)
+
+    pub written-again : written (nodeBytes made) (stepBytes made) ≡ made
+    unfolding written file lengthField versionField nodeCount stepCount rowPlace nodePlace
+    written-again =
+        let l : 6 + nodeSize * holds nodeSize (nodeBytes made) + stepSize * holds stepSize (stepBytes made) ≡ number made 0 2 =
+        omega (arith, nodes-held, steps-held, sized, c .long) in
+        let long : 6 ≤ length made = omega (arith, c .long) in
+        (λ x. spell 2 (l x) ++ (sym versioned x ∷ nodes-held x ∷ (spell 2 (steps-held x) ++ joined x)))
+        ∙ ap (λ (zs : Bytes). spell 2 (number made 0 2) ++ (number made 2 1 ∷ number made 3 1 ∷ zs)) (spelt-on 4 2 long)
+        ∙ ap (λ (zs : Bytes). spell 2 (number made 0 2) ++ (number made 2 1 ∷ zs)) (byte-on 3 (omega arith))
+        ∙ ap (λ (zs : Bytes). spell 2 (number made 0 2) ++ zs) (byte-on 2 (omega arith))
+        ∙ spelt-on 0 2 (omega arith)
+
+    pub own-lent : Lent (nodeBytes made) (stepBytes made)
+    own-lent = record {
+      node-bytes = node-bytes-length made c ∙ ap (λ (k : ℕ). nodeSize * k) (sym nodes-held);
+      step-bytes = step-bytes-length made c ∙ ap (λ (k : ℕ). stepSize * k) (sym steps-held);
+      some-node = omega (arith, nodes-held, c .some-node);
+      few-nodes = omega (arith, nodes-held, c .few-nodes);
+      few-steps = omega (arith, steps-held, c .few-steps);
+    }
+
+pub writes-again : (made : Bytes) → Small made → (r e : ActionSet) → check made ≡ passes r e → (out : Bytes) → length made ≤ length out
+    → writes (nodeBytes made) (stepBytes made) out ≡ record { reply = wrote (length made); out = put out 0 made }
+unfolding after laid
+writes-again made small r e h out room =
+    let ok = passed made r e h in
+    let w = written-again made small ok in
+    by-check (nodeBytes made) (stepBytes made) out (own-lent made small ok)
+    ∙ ap (λ (f : Bytes). after (check f) f out) w
+    ∙ ap (λ (a : Answer). after a made out) h
+    ∙ rw (le-ltb (length out) (length made) room, laid)

@@ -1,0 +1,4 @@
+pub mod Files
+pub mod Lays
+pub mod ReadBack
+pub mod Again

@@ -1,0 +1,40 @@
+-- The records in two lent buffers and in a file, and buffers of which rule 3 is kept. Assumes nothing.
+use Prim.Native.Nat.{_*_, _≤_}
+use mathlib.Core.Path.{_≡_}
+use mathlib.Core.Bool.{Bool, _&&_}
+use mathlib.Core.List.{List}
+use lib.Dec.{leb}
+use lib.ListN.{length, take, drop}
+use Rattle.policy.specs.Bytes.{Bytes}
+use Rattle.policy.specs.Lists.{listed}
+use Rattle.policy.specs.Records.{frontSize, nodeSize, stepSize, mostNodes, mostSteps, nodeCount, stepCount, Node, Row, nodeAt, rowAt, nodePlace}
+use Rattle.writing.specs.Writing.{holds, whole}
+
+-- the records that a buffer spells
+unfoldable pub nodesLent : Bytes → List Node
+nodesLent bs = listed (λ i. nodeAt bs (nodeSize * i)) 0 (holds nodeSize bs)
+
+unfoldable pub rowsLent : Bytes → List Row
+rowsLent bs = listed (λ i. rowAt bs (stepSize * i)) 0 (holds stepSize bs)
+
+-- a file's own records, as they lie in it
+unfoldable pub nodeBytes : Bytes → Bytes
+nodeBytes file = take (nodeSize * nodeCount file) (drop frontSize file)
+
+unfoldable pub stepBytes : Bytes → Bytes
+unfolding nodePlace
+stepBytes file = take (stepSize * stepCount file) (drop (nodePlace (nodeCount file)) file)
+
+-- what the code tries before it lays a file
+unfoldable pub lendable : Bytes → Bytes → Bool
+lendable nodes steps =
+    whole nodeSize nodes && whole stepSize steps
+    && (leb 1 (holds nodeSize nodes) && leb (holds nodeSize nodes) mostNodes && leb (holds stepSize steps) mostSteps)
+
+-- and what it says
+pub record Lent (nodes steps : Bytes) : Type 0 where
+  pub node-bytes : length nodes ≡ nodeSize * holds nodeSize nodes
+  pub step-bytes : length steps ≡ stepSize * holds stepSize steps
+  pub some-node : 1 ≤ holds nodeSize nodes
+  pub few-nodes : holds nodeSize nodes ≤ mostNodes
+  pub few-steps : holds stepSize steps ≤ mostSteps
