@@ -6,3 +6,4 @@ pub mod Lines
 pub mod Demand
 pub mod Premise
 pub mod ThirdDemand
+pub mod Worked

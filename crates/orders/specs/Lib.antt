@@ -1,3 +1,4 @@
 pub mod Orders
 pub mod Demand
 pub mod Premise
+pub mod Worked

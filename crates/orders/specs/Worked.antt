@@ -1,0 +1,75 @@
+-- Small cases of what the third demand speaks of: which policies keep its premise, and what a leaf inserts. Assumes nothing.
+use Prim.Native.Nat.{ℕ}
+use mathlib.Core.Path.{_≡_}
+use mathlib.Core.Bool.{Bool, true, false}
+use mathlib.Core.List.{List, [], _∷_, map}
+use lib.ListN.{replicate}
+use Rattle.actions.specs.Sets.{Action}
+use Rattle.policy.specs.Bytes.{Bytes}
+use Rattle.policy.specs.Parts.{Part, alone, pair, pairOf, fileOf, top, bottom, L, «V», V′, W, F, built}
+use Rattle.policy.specs.Tree.{Tree, tree}
+use Rattle.turns.specs.Process.{Item, trace, items}
+use Rattle.turns.specs.Turn.{Request, offer, close, call}
+use Rattle.turns.specs.Saved.{stateSize, load}
+use Rattle.turns.specs.Entries.{eventRoom, opens}
+use Rattle.orders.specs.Orders.{insertsOf}
+use Rattle.orders.specs.Demand.{premise}
+
+pub record Case : Type 0 where
+  pub policy : Bytes
+  pub keeps : Bool
+
+-- "with no parallel node in the left part of a sequential node"
+unfoldable pub premises : List Case
+unfolding built
+premises =
+    record { policy = alone L; keeps = true }
+    ∷ record { policy = alone top; keeps = true }
+    ∷ record { policy = alone bottom; keeps = true }
+    ∷ record { policy = pair 4 «V» V′; keeps = true }
+    -- sequential sides without a parallel node
+    ∷ record { policy = pair 5 top bottom; keeps = true }
+    ∷ record { policy = pair 7 bottom top; keeps = true }
+    ∷ record { policy = fileOf (pairOf 5 1 4 ∷ pairOf 7 2 3 ∷ «V» ∷ W ∷ top ∷ []); keeps = true }
+    -- a parallel node in the right part is free
+    ∷ record { policy = fileOf (pairOf 5 1 2 ∷ W ∷ pairOf 4 3 4 ∷ «V» ∷ V′ ∷ []); keeps = true }
+    -- in the left part it is not, however deep: on either side of a sequential node there, or beneath a parallel root
+    ∷ record { policy = fileOf (pairOf 5 1 4 ∷ pairOf 4 2 3 ∷ «V» ∷ V′ ∷ F ∷ []); keeps = false }
+    ∷ record { policy = fileOf (pairOf 5 1 6 ∷ pairOf 5 2 5 ∷ pairOf 6 3 4 ∷ top ∷ top ∷ top ∷ F ∷ []); keeps = false }
+    ∷ record { policy = fileOf (pairOf 5 1 6 ∷ pairOf 5 2 3 ∷ top ∷ pairOf 6 4 5 ∷ top ∷ top ∷ F ∷ []); keeps = false }
+    ∷ record { policy = fileOf (pairOf 4 1 6 ∷ pairOf 7 2 5 ∷ pairOf 4 3 4 ∷ top ∷ top ∷ top ∷ top ∷ []); keeps = false }
+    ∷ record { policy = fileOf (pairOf 4 1 2 ∷ top ∷ pairOf 7 3 6 ∷ pairOf 4 4 5 ∷ top ∷ top ∷ top ∷ []); keeps = false }
+    ∷ record { policy = fileOf (pairOf 5 1 2 ∷ top ∷ pairOf 7 3 6 ∷ pairOf 4 4 5 ∷ top ∷ top ∷ top ∷ []); keeps = false }
+    ∷ []
+
+-- what a call after opening lets a leaf insert
+pub record Inserts : Type 0 where
+  pub policy : Bytes
+  pub request : Request
+  pub leaf : ℕ
+  pub inserts : List Action
+
+unfoldable pub insertsIn : Inserts → List Action
+insertsIn x =
+    let t : Tree = tree (x .policy) in
+    let s : Bytes = opens (x .policy) (replicate stateSize 0) (replicate eventRoom 0) .state in
+    insertsOf t (x .leaf) (items (trace (call t (x .request) (load t s))))
+
+-- an ins that runs, one of the other leaf, and one that the right side of a sequential node swallows: it was made all the same
+unfoldable pub inserting : List Inserts
+unfolding built
+inserting =
+    record { policy = alone «V»; request = offer 4; leaf = 0; inserts = 3 ∷ [] }
+    ∷ record { policy = alone L; request = offer 2; leaf = 0; inserts = [] }
+    ∷ record { policy = pair 4 «V» V′; request = offer 4; leaf = 1; inserts = 3 ∷ [] }
+    ∷ record { policy = pair 4 «V» V′; request = offer 4; leaf = 2; inserts = [] }
+    ∷ record { policy = pair 4 «V» V′; request = close; leaf = 1; inserts = 3 ∷ [] }
+    ∷ record { policy = pair 4 «V» V′; request = close; leaf = 2; inserts = 6 ∷ [] }
+    ∷ record { policy = pair 5 «V» W; request = offer 4; leaf = 1; inserts = 3 ∷ [] }
+    ∷ record { policy = pair 5 «V» W; request = offer 4; leaf = 2; inserts = [] }
+    ∷ []
+
+unfoldable pub AllWorked : Type 0
+AllWorked =
+    (map (λ x. premise (tree (x .policy))) premises ≡ map (λ x. x .keeps) premises)
+    × (map insertsIn inserting ≡ map (λ x. x .inserts) inserting)
