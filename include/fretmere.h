@@ -50,7 +50,7 @@ enum {
 /* An event is two bytes: what happened, then the action. */
 enum { FRETMERE_ACCEPTED = 1, FRETMERE_SUPPRESSED = 2, FRETMERE_INSERTED = 3 };
 
-/* The answer to open, offer and close. */
+/* The answer to open, offer, close and write. */
 typedef uint32_t fretmere_answer;
 
 /* The refusal, 0 where the call was answered. */
@@ -59,6 +59,9 @@ static inline unsigned fretmere_refusal(fretmere_answer answer) { return answer 
 /* The root's status after the call, and the number of its events. Both are 0 after a refusal. */
 static inline unsigned fretmere_status(fretmere_answer answer) { return answer >> 16 & 0xFFu; }
 static inline unsigned fretmere_events(fretmere_answer answer) { return answer & 0xFFFFu; }
+
+/* After fretmere_write, the length of the file; 0 after a refusal. */
+static inline unsigned fretmere_length(fretmere_answer answer) { return answer & 0xFFFFFFu; }
 
 /* Checks a policy file. Returns 0 and writes the root's regulated set and its effect set (bit a for action a), or returns the refusal,
  * 1 to 10, and writes nothing. The two pointers are not NULL, and not equal. */
@@ -78,13 +81,13 @@ fretmere_answer fretmere_offer(const uint8_t *policy, size_t policy_length, uint
 fretmere_answer fretmere_close(const uint8_t *policy, size_t policy_length, uint8_t *state, size_t state_length,
                                uint8_t *events, size_t events_length);
 
-/* Writes a policy file from its records. `nodes` holds the node records, 16 bytes each, and `steps` the step records, 12 bytes each, laid
- * out as in the file; length, version and counts are made. The answer is the refusal in its highest byte, read by fretmere_refusal, or
- * else the length of the file, which fretmere_check passes and which stands from the output's first byte on; the bytes after it stay as
- * they were. Refusals 3 to 10 of the file that would be written, where 3 means: a length that is no multiple of 16 or of 12, no node,
- * more than 31 nodes or more than 512 steps; then 15. A refusal writes nothing. */
-uint32_t fretmere_write(const uint8_t *nodes, size_t nodes_length, const uint8_t *steps, size_t steps_length, uint8_t *out,
-                        size_t out_length);
+/* Writes a policy file from its records: `nodes` holds the node records, 16 bytes each, and `steps` the step records, 12 bytes each, laid
+ * out as in the file; length, version and counts are made. Answers the length of the file, which stands from the output's first byte on and
+ * which fretmere_check passes; the bytes after it stay as they were. FRETMERE_POLICY_MOST bytes of output are room for any file. Refusals:
+ * 3 where a length is no multiple of 16 or of 12, or there is no node, more than 31 nodes or more than 512 steps; 4 to 10 of the file that
+ * would be written; then 15. */
+fretmere_answer fretmere_write(const uint8_t *nodes, size_t nodes_length, const uint8_t *steps, size_t steps_length,
+                               uint8_t *out, size_t out_length);
 
 #ifdef __cplusplus
 }

@@ -71,22 +71,39 @@ static void compare_call(int entry, uint8_t action, unsigned long call)
     }
 }
 
+/* The fields of a write are nodes, steps and output. */
+static void compare_write(unsigned long call)
+{
+    memcpy(their_state, state.bytes, state.length);
+    memcpy(their_events, events.bytes, events.length);
+    const guard_written theirs = guard_write(policy.bytes, policy.length, state.bytes, state.length, their_events, events.length);
+    const uint32_t ours = fretmere_write(policy.bytes, policy.length, state.bytes, state.length, events.bytes, events.length);
+
+    if (fretmere_refusal(ours) != theirs.refusal || (theirs.refusal == 0 && ours != theirs.length)) {
+        fail("another answer of the writer", call);
+    }
+    if (memcmp(state.bytes, their_state, state.length) != 0) {
+        fail("the steps are written", call);
+    }
+    if (memcmp(events.bytes, their_events, events.length) != 0) {
+        fail("another output", call);
+    }
+}
+
 static unsigned long compare_batch(void)
 {
-    unsigned long calls = 0, writes = 0;
+    unsigned long calls = 0;
 
     for (int entry = getchar(); entry != EOF; entry = getchar(), calls++) {
         if (!read_field(&policy) || !read_field(&state) || !read_field(&events)) {
             fail("the batch ends in the middle of it", calls);
         }
         const int action = getchar();
-        if (entry == WRITE) { /* the library has none: passed over */
-            writes++;
-            continue;
-        }
         memcpy(kept, policy.bytes, policy.length);
         if (entry == CHECK) {
             compare_check(calls);
+        } else if (entry == WRITE) {
+            compare_write(calls);
         } else {
             compare_call(entry, (uint8_t)action, calls);
         }
@@ -94,10 +111,10 @@ static unsigned long compare_batch(void)
             fail("a byte beside a buffer is written", calls);
         }
         if (memcmp(kept, policy.bytes, policy.length) != 0) {
-            fail("the policy is written", calls);
+            fail("the policy, or the nodes, are written", calls);
         }
     }
-    return calls - writes;
+    return calls;
 }
 
 static void expect(bool holds, const char *what)

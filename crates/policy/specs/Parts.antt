@@ -1,4 +1,5 @@
--- Files written out for worked examples: a leaf with its steps, and files of one, two and more nodes. Assumes nothing.
+-- Files written out: a file from its records, and for worked examples a leaf with its steps, and files of one, two and more nodes.
+-- Assumes nothing.
 use Prim.Native.Nat.{ℕ, suc, _+_, _*_, _^_}
 use mathlib.Core.List.{List, [], _∷_, _++_}
 use Rattle.policy.specs.Bytes.{Bytes, spell}
@@ -41,6 +42,7 @@ unfoldable pub setOf : List ℕ → ℕ
 setOf [] = 0
 setOf (a ∷ bs) = 2 ^ a + setOf bs
 
+-- length, version, the number of nodes and of steps, and then the records
 unfoldable pub file : ℕ → ℕ → Bytes → Bytes
 file n m body = spell 2 (frontSize + nodeSize * n + stepSize * m) ++ (1 ∷ n ∷ (spell 2 m ++ body))
 
