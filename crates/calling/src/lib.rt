@@ -143,8 +143,8 @@ fn carry_offer(
 // The root's answer to an action: the number of its events.
 fn play(
     policy: &[u8],
-    sets: &[u64],
-    firsts: &[u16],
+    sets: &[u64; 31],
+    firsts: &[u16; 31],
     state: &mut [u8],
     work: &mut [u8],
     events: &mut [u8],
@@ -163,8 +163,8 @@ fn play(
 // The root's turn on an action that it is asked about.
 fn turn(
     policy: &[u8],
-    sets: &[u64],
-    firsts: &[u16],
+    sets: &[u64; 31],
+    firsts: &[u16; 31],
     state: &mut [u8],
     work: &mut [u8],
     events: &mut [u8],

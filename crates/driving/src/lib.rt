@@ -48,8 +48,8 @@ fn tell(state: &mut [u8], work: &mut [u8], phase: u8, action: u8)
 // One phase of the whole policy. Its events are written from a place on.
 pub fn drive(
     policy: &[u8],
-    sets: &[u64],
-    firsts: &[u16],
+    sets: &[u64; 31],
+    firsts: &[u16; 31],
     state: &mut [u8],
     work: &mut [u8],
     events: &mut [u8],

@@ -1,7 +1,7 @@
 -- Where a leaf's phase begins: whether it is asked, and from which offset it goes on. Assumes nothing.
-use Prim.Native.Nat.{ℕ, zero, suc}
+use Prim.Native.Nat.{ℕ, zero, suc, _+_}
 use native.Mathlib.Omega.{arith}
-use mathlib.Core.Path.{_≡_, refl, sym, ap, ap₂, _∙_, subst}
+use mathlib.Core.Path.{_≡_, refl, sym, ap, _∙_, subst}
 use mathlib.Core.Bool.{Bool, true, false, not}
 use mathlib.Core.List.{List}
 use lib.Dec.{eqb}
@@ -9,17 +9,15 @@ use lib.ListN.{getD}
 use borrow.Author.Tests.{ne-eqb}
 use Rattle.actions.specs.Sets.{Action, ActionSet, has}
 use Rattle.actions.proofs.Tests.{true-not-false}
-use Rattle.policy.specs.Steps.{Step, ins, acase, spend, halt}
+use Rattle.policy.specs.Bytes.{Bytes, number}
+use Rattle.policy.specs.Records.{rowAt}
+use Rattle.policy.specs.Steps.{Step, next, ok, sup, ins, acase, spend, end, halt, stepOf}
 use Rattle.policy.specs.Tree.{Tree, leaf, numberOf}
 use Rattle.turns.specs.Status.{Status, statusOf, isRunning}
 use Rattle.turns.specs.State.{State, at, leafOver, status, asked, offset, counter}
 use Rattle.turns.specs.Process.{Process}
 use Rattle.turns.specs.Turn.{Phase, before, after, closing, quiet, takeOf, doneOf, leafWork, isAsked, ifAsked, phase}
-use Rattle.reading.specs.Kinds.{insOf, acaseOf, spendOf, stepMeant}
-use Rattle.reading.specs.declared.Operand.{Operand}
-use Rattle.reading.specs.declared.Operand.the-variants as operands
-use Rattle.reading.specs.declared.Step as declared
-use Rattle.reading.specs.declared.Step.the-variants as variants
+use Rattle.reading.proofs.Rows.{of-kind, by-kind}
 use Rattle.memory.specs.Run.{Run, Next, more, flat, cut}
 use Rattle.memory.specs.Memory.{Cell, phaseOf, leafed, held, actionOf, ranOf, staged, rest}
 use Rattle.leaves.specs.Leaf.{goesOn, leaving, Starts}
@@ -159,51 +157,35 @@ module _ (i : ℕ) (r : ActionSet) (c₀ : ℕ) (code : List Step) (y : Cell) wh
 pub starts-to : (b : Bool) (t : Tree) (go : ℕ → Action → ℕ → ℕ → Next) (y : Cell) (n : ℕ) {o o′ : ℕ} → o ≡ o′ → Starts b t go y n o′ → Starts b t go y n o
 starts-to b t go y n e h = subst (λ (k : ℕ). Starts b t go y n k) (sym e) h
 
--- ---- where a step leads when it is left, in the code's terms
+-- ---- where a step leads when it is left
 
-pub leaving-done : {b : Bool} {s : declared.Step} {t d : ℕ} → b ≡ true → s ≡ variants.Next t d → d ≡ leaving b (stepMeant s)
-unfolding leaving stepMeant takeOf doneOf
-leaving-done {t = t} {d = d} e f = sym (ap₂ (λ (b : Bool) (s : declared.Step). leaving b (stepMeant s)) e f)
+-- a next's two targets
+pub leaving-done : (b : Bool) (t d : ℕ) → b ≡ true → d ≡ leaving b (next t d)
+unfolding leaving doneOf
+leaving-done b t d e = sym (ap (λ (x : Bool). leaving x (next t d)) e)
 
-pub leaving-take : {b : Bool} {s : declared.Step} {t d : ℕ} → b ≡ false → s ≡ variants.Next t d → t ≡ leaving b (stepMeant s)
-unfolding leaving stepMeant takeOf doneOf
-leaving-take {t = t} {d = d} e f = sym (ap₂ (λ (b : Bool) (s : declared.Step). leaving b (stepMeant s)) e f)
+pub leaving-take : (b : Bool) (t d : ℕ) → b ≡ false → t ≡ leaving b (next t d)
+unfolding leaving takeOf
+leaving-take b t d e = sym (ap (λ (x : Bool). leaving x (next t d)) e)
 
 -- every other step leads nowhere
-pub leaving-none : (b : Bool) (s : Step) → takeOf s ≡ 0 → doneOf s ≡ 0 → 0 ≡ leaving b s
+leaving-none : (b : Bool) (s : Step) → takeOf s ≡ 0 → doneOf s ≡ 0 → 0 ≡ leaving b s
 unfolding leaving
 leaving-none true s e f = sym f
 leaving-none false s e f = sym e
 
-pub leaving-at : (b : Bool) {s s′ : declared.Step} → s ≡ s′ → 0 ≡ leaving b (stepMeant s′) → 0 ≡ leaving b (stepMeant s)
-leaving-at b e h = h ∙ sym (ap (λ (z : declared.Step). leaving b (stepMeant z)) e)
+pub leaving-halt : (b : Bool) → 0 ≡ leaving b halt
+unfolding takeOf doneOf
+leaving-halt b = leaving-none b halt refl refl
 
-none-ins : (b : Bool) (x : Operand) (t : ℕ) → 0 ≡ leaving b (insOf x t)
-unfolding insOf takeOf doneOf
-none-ins b (operands.Action a) t = leaving-none b (ins a t) refl refl
-none-ins b (operands.Set s) t = leaving-none b halt refl refl
-none-ins b (operands.Amount n) t = leaving-none b halt refl refl
+module _ (file : Bytes) (at : ℕ) where
+  pub next-read : number file at 1 ≡ 1 → next (number file (at + 2) 1) (number file (at + 3) 1) ≡ stepOf (rowAt file at)
+  unfolding stepOf
+  next-read e = of-kind file at 1 (sym e)
 
-none-acase : (b : Bool) (x : Operand) (y z : ℕ) → 0 ≡ leaving b (acaseOf x y z)
-unfolding acaseOf takeOf doneOf
-none-acase b (operands.Action a) y z = leaving-none b halt refl refl
-none-acase b (operands.Set s) y z = leaving-none b (acase (s .bits) y z) refl refl
-none-acase b (operands.Amount n) y z = leaving-none b halt refl refl
-
-none-spend : (b : Bool) (x : Operand) (y z : ℕ) → 0 ≡ leaving b (spendOf x y z)
-unfolding spendOf takeOf doneOf
-none-spend b (operands.Action a) y z = leaving-none b halt refl refl
-none-spend b (operands.Set s) y z = leaving-none b halt refl refl
-none-spend b (operands.Amount n) y z = leaving-none b (spend n y z) refl refl
-
-pub leaving-ins : (b : Bool) {s : declared.Step} {x : Operand} {t : ℕ} → s ≡ variants.Ins x t → 0 ≡ leaving b (stepMeant s)
-unfolding stepMeant
-leaving-ins b {x = x} {t = t} e = leaving-at b e (none-ins b x t)
-
-pub leaving-acase : (b : Bool) {s : declared.Step} {x : Operand} {y z : ℕ} → s ≡ variants.Acase x y z → 0 ≡ leaving b (stepMeant s)
-unfolding stepMeant
-leaving-acase b {x = x} {y = y} {z = z} e = leaving-at b e (none-acase b x y z)
-
-pub leaving-spend : (b : Bool) {s : declared.Step} {x : Operand} {y z : ℕ} → s ≡ variants.Spend x y z → 0 ≡ leaving b (stepMeant s)
-unfolding stepMeant
-leaving-spend b {x = x} {y = y} {z = z} e = leaving-at b e (none-spend b x y z)
+  pub leaving-else : (b : Bool) → (number file at 1 ≡ 1 → ⊥) → 0 ≡ leaving b (stepOf (rowAt file at))
+  unfolding takeOf doneOf rowAt
+  leaving-else b =
+      by-kind (λ k s. (k ≡ 1 → ⊥) → 0 ≡ leaving b s) (rowAt file at) (λ z. absurd (z refl)) (λ z. leaving-none b (ok _) refl refl)
+      (λ z. leaving-none b (sup _) refl refl) (λ z. leaving-none b (ins _ _) refl refl) (λ z. leaving-none b (acase _ _ _) refl refl)
+      (λ z. leaving-none b (spend _ _ _) refl refl) (λ z. leaving-none b end refl refl) (λ k z. leaving-halt b)

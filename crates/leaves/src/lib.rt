@@ -23,6 +23,7 @@ use memory::outcomes::Progress;
 use memory::outcomes::Went;
 use reading::Operand;
 use reading::Step;
+use reading::byte;
 use reading::step_at;
 
 // What ends a leaf's run: it stays at a next; it stops at the target, and whether it suppressed; it inserts, to go on from the
@@ -183,31 +184,24 @@ pub struct Start {
     pub offset: u8,
 }
 
-fn step_of(policy: &[u8], at: usize, count: usize, offset: u8) -> Step
+// Where a next leads when it is left: to its take target, at closing to its done target. What is no next leads nowhere. Only here is a
+// step not read as an enum: of a next that is left one byte is wanted, and the enum's reader then has one caller, which it is compiled into.
+fn leaving(policy: &[u8], at: usize, count: usize, offset: u8, closing: bool) -> u8
     requires { ⌜ at + 12 * count ≤ length (now policy) ⌝ }
-    ensures { λ r. ⌜ stepMeant r ≡ getD (codeAt (now (policy .entry)) at count) offset halt ⌝ }
+    ensures { λ r. ⌜ r ≡ leaving closing (getD (codeAt (now (policy .entry)) at count) offset halt) ⌝ }
 {
     let place = offset as usize;
     if place >= count {
-        return Step::Halt;
+        return 0;
     }
-    step_at(policy, at + 12 * place)
-}
-
-// Where a next leads when it is left: to its take target, at closing to its done target.
-fn leaving(step: Step, closing: bool) -> u8
-    ensures { λ r. ⌜ r ≡ leaving closing (stepMeant step) ⌝ }
-{
-    match step {
-        Step::Next(take, done) => { if closing { done } else { take } }
-        Step::Ok(_) => 0,
-        Step::Sup(_) => 0,
-        Step::Ins(_, _) => 0,
-        Step::Acase(_, _, _) => 0,
-        Step::Spend(_, _, _) => 0,
-        Step::End => 0,
-        Step::Halt => 0,
+    let row = at + 12 * place;
+    if byte(policy, row) != 1 {
+        return 0;
     }
+    if closing {
+        return byte(policy, row + 3);
+    }
+    byte(policy, row + 2)
 }
 
 // The action that is pending: none after the verdict and at closing.
@@ -261,8 +255,7 @@ fn begin(policy: &[u8], at: usize, count: usize, set: ActionSet, cell: Cell, pla
             offset,
         };
     }
-    let step = step_of(policy, at, count, offset);
-    let to = leaving(step, cell.phase != 0);
+    let to = leaving(policy, at, count, offset, cell.phase != 0);
     Start {
         go: true,
         steps: 1,

@@ -19,7 +19,7 @@ use Rattle.memory.specs.declared.outcomes.Fed.{Fed}
 use Rattle.memory.specs.declared.outcomes.Fed.the-variants.{Back, Yield, Over}
 use Rattle.memory.specs.Run.{Run, halts, andThen, insert, done, more, cut, insertsOf, unlessRun, maybe, fedAfter, fedBefore}
 use Rattle.memory.specs.Memory.{Cell, Mem, held, ranOf, parRight, parLeft, own, ends, atLeft, atFedBefore, atFedAfter, atFirst, staged, rest}
-use Rattle.memory.specs.Promises.{Kept, KeptBut, Wrote, Handed, Settled, Led, Gives, Went, Begun, Feeds, Was, FedOn, emits, goesOn, endSup, ahead}
+use Rattle.memory.specs.Promises.{Kept, KeptBut, Wrote, Handed, Settled, Led, Gives, Went, Begun, Was, FedOn, emits, goesOn, endSup, ahead}
 use Rattle.memory.proofs.Runs.{more-none, more-more, more-insert, more-done, then-insert, then-done, feed-given, feed-out, feed-done, maybe-yes, maybe-no, unless-running, unless-decided, inserts-on, ahead-more, then-ahead, feed-ahead}
 use Rattle.memory.proofs.Begin.{held-status, asked-in, askedIn, drop-held, drop-fresh, noded-over, idle, left-fresh, begins-parallel, begins-before, begins-closing, begins-after}
 use Rattle.memory.proofs.Frames.{own-number, outside, outside-left, outside-right, held-apart, rest-same, to-begin, handed-held, handed-other, handed-rest, handed-kept}
@@ -674,16 +674,3 @@ went-ahead {t} {m} {m′} {k} {x} w = on x (w .gives)
     on : (y : Progress) → Gives t m m′ k y → ahead (cut (rest t m)) ≡ k
     on (Insert c) g = ap ahead g
     on (Done u) g = ap ahead g
-
-pub fed-ahead : {t r : Tree} {m m′ : Mem} {k : ℕ} → FedOn t r m m′ k → ahead (cut (rest t m)) ≡ k + ahead (cut (rest t m′))
-fed-ahead {t} {r} {m} {m′} {k} d = ap ahead (d .leads) ∙ ahead-more k (cut (rest t m′))
-
--- one after another, inside the right side's turn
-pub fed-via : {t r : Tree} {m m′ m″ : Mem} {k n : ℕ} {x : Fed} → FedOn t r m m′ k → Was t r m′ m″ n x → Was t r m m″ (k + n) x
-unfolding more
-fed-via {t} {r} {m} {m′} {m″} {k} {n} {x} d w = record { feeds = on x (w .feeds); kept = λ i ne o. w .kept i ne o ∙ d .kept i ne o }
-  where
-    on : (y : Fed) → Feeds t m′ m″ n y → Feeds t m m″ (k + n) y
-    on Back g = (d .leads ∙ ap (more k) (g .0) ∙ more-more k n (cut (rest t m″)), g .1)
-    on (Yield c) g = d .leads ∙ ap (more k) g
-    on (Over u) g = d .leads ∙ ap (more k) g

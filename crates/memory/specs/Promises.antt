@@ -1,8 +1,7 @@
 -- What the functions of the turn promise of the memory before and after them. Assumes nothing.
-use Prim.Native.Nat.{ℕ, _<_}
+use Prim.Native.Nat.{ℕ}
 use mathlib.Core.Path.{_≡_}
 use mathlib.Core.Bool.{Bool, true, false, _&&_, _||_, not}
-use lib.ListN.{length}
 use Rattle.actions.specs.Sets.{Action}
 use Rattle.policy.specs.Tree.{Join, and, or, Tree, numberOf}
 use Rattle.rules.specs.Lawful.{holds}
@@ -14,7 +13,7 @@ use Rattle.memory.specs.declared.outcomes.Fed.{Fed}
 use Rattle.memory.specs.declared.outcomes.Fed.the-variants.{Back, Yield, Over}
 use Rattle.memory.specs.declared.outcomes.Part.{Part}
 use Rattle.memory.specs.declared.outcomes.Part.the-variants.{Own, Ends}
-use Rattle.memory.specs.Run.{Next, insert, done, more, cut, insertsOf}
+use Rattle.memory.specs.Run.{Next, insert, done, more, cut}
 use Rattle.memory.specs.Memory.{Cell, Mem, held, rest}
 
 -- ---- cells
@@ -105,23 +104,6 @@ Feeds t m m′ n (Over u) = cut (rest t m) ≡ done n (record { state = held t m
 pub record Was (t r : Tree) (m m′ : Mem) (n : ℕ) (x : Fed) : Type 0 where
   pub feeds : Feeds t m m′ n x
   pub kept : (i : ℕ) → (i ≡ numberOf t → ⊥) → holds r i ≡ false → m′ i ≡ m i
-
--- a left side l that is to go on has fewer inserts to come
-abbrev pub Fewer : Tree → Mem → Mem → Fed → Type 0
-Fewer l m m′ Back = length (insertsOf (rest l m′)) < length (insertsOf (rest l m))
-Fewer l m m′ (Yield b) = Unit {0}
-Fewer l m m′ (Over u) = Unit {0}
-
--- what a sequential node made of its left side l up to its next insert or its end
-pub record Came (t l : Tree) (m m′ : Mem) (n : ℕ) (x : Fed) : Type 0 where
-  pub feeds : Feeds t m m′ n x
-  pub kept : Kept t m m′
-  pub fewer : Fewer l m m′ x
-
--- an insert or the end of the right side's own part
-unfoldable pub fedOf : Progress → Fed
-fedOf (Insert b) = Yield b
-fedOf (Done u) = Over u
 
 -- so many steps of the right side's turn on an insert went by in silence
 pub record FedOn (t r : Tree) (m m′ : Mem) (n : ℕ) : Type 0 where

@@ -10,7 +10,7 @@ pub struct Went {
     pub what: Progress,
 }
 
-// How the right side's turn on an insert went on: it is over and the left side goes on, an insert came out, or the node is decided.
+// How a round of a node went: the node goes on with another, an insert came out, or its phase is over.
 pub enum Fed {
     Back,
     Yield(u8),

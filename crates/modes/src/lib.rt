@@ -113,7 +113,7 @@ fn lead_by(idle: u8, pending: u8, closing: u8, met: Met, seen: &mut [u8]) -> boo
     lead_in(closing, here.closing, met.first, met.second, seen);
     lead_in(pending, here.pending, met.first, met.second, seen);
     lead_in(idle, here.idle, met.first, met.second, seen);
-    let modes = here.idle as usize + here.pending as usize + here.closing as usize;
+    let modes = here.idle + here.pending + here.closing;
     (modes == 1)
         & ((here.idle == 0) | stands(idle))
         & ((here.pending == 0) | stands(pending))

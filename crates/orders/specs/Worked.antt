@@ -6,9 +6,9 @@ use mathlib.Core.List.{List, [], _∷_, map}
 use lib.ListN.{replicate}
 use Rattle.actions.specs.Sets.{Action}
 use Rattle.policy.specs.Bytes.{Bytes}
-use Rattle.policy.specs.Parts.{Part, alone, pair, pairOf, fileOf, top, bottom, L, «V», V′, W, F, built}
+use Rattle.policy.specs.Parts.{alone, pair, pairOf, fileOf, top, bottom, L, «V», V′, W, F, built}
 use Rattle.policy.specs.Tree.{Tree, tree}
-use Rattle.turns.specs.Process.{Item, trace, items}
+use Rattle.turns.specs.Process.{trace, items}
 use Rattle.turns.specs.Turn.{Request, offer, close, call}
 use Rattle.turns.specs.Saved.{stateSize, load}
 use Rattle.turns.specs.Entries.{eventRoom, opens}

@@ -1,10 +1,9 @@
 -- The calls of the turn at a node of the file: what a side's turn is asked, and what it makes of the node's. Assumes nothing.
-use Prim.Native.Nat.{ℕ, _+_, _≤_, _<_}
+use Prim.Native.Nat.{ℕ, suc, _+_, _≤_, _<_}
 use native.Mathlib.Omega.{arith}
 use mathlib.Core.Path.{_≡_, refl, sym, ap, ap₂, _∙_, subst}
 use mathlib.Core.Bool.{Bool, true, false, _&&_}
 use mathlib.Core.List.{List}
-use mathlib.Core.Logic.{_⊎_, ⊎-elim}
 use lib.ListN.{length, getD}
 use Rattle.actions.specs.Sets.{Action, has}
 use Rattle.policy.specs.Bytes.{Bytes}
@@ -14,6 +13,7 @@ use Rattle.rules.proofs.Grown.{shaped}
 use Rattle.rules.specs.Lawful.{Numbered}
 use Rattle.policy.specs.Tree.{treeAt}
 use Rattle.turns.specs.Status.{isRunning}
+use Rattle.turns.specs.Turn.{after}
 use Rattle.reading.specs.Kinds.{wayOf, kindOf}
 use Rattle.reading.specs.declared.Kind.{Kind}
 use Rattle.reading.specs.declared.Kind.the-variants as kinds
@@ -27,16 +27,17 @@ use Rattle.memory.specs.declared.outcomes.Fed.the-variants.{Back, Yield, Over}
 use Rattle.memory.specs.declared.outcomes.Part.{Part}
 use Rattle.memory.specs.declared.outcomes.Part.the-variants.{Own, Ends}
 use Rattle.memory.specs.Run.{Run, cut, insertsOf}
-use Rattle.memory.specs.Memory.{Mem, rest}
-use Rattle.memory.specs.Promises.{Led, Gives, Went, Begins, Begun, Feeds, Was, Fewer, Came, fedOf, FedOn, ahead, Second, Concluded, GivenOn, Parts, Owned, PassedOn, Finished, Firsts}
+use Rattle.memory.specs.Memory.{Mem, held, ranOf, rest}
+use Rattle.memory.specs.Promises.{Led, Went, Begins, Begun, Was, FedOn, ahead, Second, Concluded, GivenOn, Parts, Owned, PassedOn, Finished, Firsts}
 use Rattle.sides.specs.Sides.{kindAt, leftAt, rightAt, joinOfKind, joinAt, wayOfKind, wayAt, Placed, Sided}
 use Rattle.starting.specs.Ready.{Ready, Few}
 use Rattle.tables.proofs.FileNodes.{tree-read}
-use Rattle.memory.proofs.Runs.{ahead-more}
-use Rattle.memory.proofs.Frames.{same-or-not}
+use Rattle.memory.proofs.Frames.{outside, outside-right, held-apart, rest-same, handed-rest, not-right-of-left, held-l}
 use Rattle.memory.proofs.Steps as steps
-use Rattle.memory.proofs.Steps.{via, led-on, led-same, led-ahead, went-ahead, fed-ahead}
+use Rattle.memory.proofs.Steps.{via, led-same, led-ahead, went-ahead}
 use Rattle.memory.proofs.Calls as calls
+use Rattle.memory.proofs.Calls.{told-handed}
+use Rattle.turning.specs.Rounds.{falling, gauge, Turns, Round}
 use Rattle.sides.proofs.Nodes.{placed, Sides, sides, tree-is, numbered-here}
 use Rattle.rules.proofs.Numbers.{number-at}
 
@@ -51,21 +52,7 @@ led-as {t} {t′} {m} {m′} {n} e d = subst (λ (q : Tree). Led q m m′ n) e d
 was-as : {t t′ r : Tree} {m m′ : Mem} {n : ℕ} {x y : Fed} → t ≡ t′ → x ≡ y → Was t r m m′ n x → Was t′ r m m′ n y
 was-as {t} {t′} {r} {m} {m′} {n} {x} {y} e f w = subst (λ (q : Tree). Was q r m m′ n y) e (subst (λ (z : Fed). Was t r m m′ n z) f w)
 
--- ---- the stages that are left
-
-pub stage-2 : {x y : ℕ} → x ≡ y → (2 ≤ y) × (y ≤ 3) → (x ≡ 3 → ⊥) → y ≡ 2
-stage-2 {x} {y} e l ne = ⊎-elim (λ (z : y ≡ 3). absurd (ne (e ∙ z))) (λ (z : y ≡ 3 → ⊥). omega (arith, l, z)) (same-or-not y 3)
-
-pub stage-fed : {x y : ℕ} → x ≡ y → (y ≡ 0 → ⊥) → (x ≡ 1 → ⊥) → (x ≡ 4 → ⊥) → (x ≡ 5 → ⊥) → x ≤ 5 → (2 ≤ y) × (y ≤ 3)
-stage-fed e f₀ f₁ f₄ f₅ l = (omega (arith, f₀, f₁), omega (arith, f₄, f₅))
-
 -- ---- the steps can be counted
-
-feeds-ahead : (t : Tree) (m m′ : Mem) (n : ℕ) (x : Fed) → Feeds t m m′ n x → n ≤ ahead (cut (rest t m))
-unfolding ahead
-feeds-ahead t m m′ n Back g = omega (arith, ap ahead (g .0), ahead-more n (cut (rest t m′)))
-feeds-ahead t m m′ n (Yield c) g = omega (arith, ap ahead g)
-feeds-ahead t m m′ n (Over u) g = omega (arith, ap ahead g)
 
 -- what is ahead in the memory can be counted
 abbrev pub Counts : Tree → Mem → Type 0
@@ -75,21 +62,76 @@ module _ {t : Tree} {m m′ : Mem} {n : ℕ} (d : Led t m m′ n) (f : Counts t 
   pub few-on : Counts t m′
   few-on = omega (arith, f, led-ahead d)
 
-  pub few-went : {m″ : Mem} {q : ℕ} {x : Progress} → Went t m′ m″ q x → n + q < 18446744073709551616
-  few-went w = omega (arith, f, led-ahead d, went-ahead w)
+-- ---- rounds
 
-  pub few-was : {r : Tree} {m″ : Mem} {q : ℕ} {x : Fed} → Was t r m′ m″ q x → n + q < 18446744073709551616
-  few-was {m″ = m″} {q = q} {x = x} w = omega (arith, f, led-ahead d, feeds-ahead t m′ m″ q x (w .feeds))
+module _ (policy : Bytes) (i : ℕ) where
+  abbrev to-come : Mem → ℕ
+  to-come m = length (insertsOf (rest (treeAt policy (leftAt policy i)) m))
 
-  pub few-came : {l : Tree} {m″ : Mem} {q : ℕ} {x : Fed} → Came t l m′ m″ q x → n + q < 18446744073709551616
-  few-came {m″ = m″} {q = q} {x = x} w = omega (arith, f, led-ahead d, feeds-ahead t m′ m″ q x (w .feeds))
+  abbrev to-begin : Mem → ℕ
+  to-begin m = length (insertsOf (ranOf (treeAt policy (leftAt policy i)) after (held (treeAt policy (leftAt policy i)) m)))
 
-module _ {t r : Tree} {m m′ : Mem} {n : ℕ} (d : FedOn t r m m′ n) (f : Counts t m) where
-  pub few-fed : Counts t m′
-  few-fed = omega (arith, f, fed-ahead d)
+  -- the node goes on, at another stage
+  round-on : (w : Way) {m m′ : Mem} {n : ℕ} (p q : ℕ) → Led (treeAt policy i) m m′ n → m i .stage ≡ p → m′ i .stage ≡ suc q
+      → falling w (suc q) (to-come m′) (to-begin m′) < falling w p (to-come m) (to-begin m) → Round policy w i m m′ n Back
+  unfolding gauge
+  round-on w {m} {m′} p q d e f h = record {
+    turns = (
+      d,
+      λ z. omega (arith, f, z),
+      omega (arith, h, ap (λ (x : ℕ). falling w x (to-come m) (to-begin m)) e, ap (λ (x : ℕ). falling w x (to-come m′) (to-begin m′)) f),
+    );
+  }
 
-  pub few-fed-was : {m″ : Mem} {q : ℕ} {x : Fed} → Was t r m′ m″ q x → n + q < 18446744073709551616
-  few-fed-was {m″ = m″} {q = q} {x = x} w = omega (arith, f, fed-ahead d, feeds-ahead t m′ m″ q x (w .feeds))
+module _ {policy : Bytes} {w : Way} {i : ℕ} {m m′ : Mem} {n : ℕ} where
+  pub round-out : {b : Action} → Went (treeAt policy i) m m′ n (Insert b) → Round policy w i m m′ n (Yield b)
+  round-out v = record { turns = v }
+
+  pub round-over : {u : Bool} → Went (treeAt policy i) m m′ n (Done u) → Round policy w i m m′ n (Over u)
+  round-over v = record { turns = v }
+
+  module _ {x : Fed} (r : Round policy w i m m′ n x) where
+    told : {y : Fed} → x ≡ y → Turns policy w i m m′ n y
+    told e = subst (λ (z : Fed). Turns policy w i m m′ n z) e (r .turns)
+
+    pub round-back : x ≡ Back
+        → Led (treeAt policy i) m m′ n × (m′ i .stage ≡ 0 → ⊥) × (gauge w (treeAt policy (leftAt policy i)) i m′ < gauge w (treeAt policy (leftAt policy i)) i m)
+    round-back e = told e
+
+    pub round-yield : {b : Action} → x ≡ Yield b → Went (treeAt policy i) m m′ n (Insert b)
+    round-yield e = told e
+
+    pub round-done : {u : Bool} → x ≡ Over u → Went (treeAt policy i) m m′ n (Done u)
+    round-done e = told e
+
+    round-ahead : n ≤ ahead (cut (rest (treeAt policy i) m))
+    round-ahead = on x (r .turns)
+      where
+        on : (y : Fed) → Turns policy w i m m′ n y → n ≤ ahead (cut (rest (treeAt policy i) m))
+        on Back t = omega (arith, led-ahead (t .0))
+        on (Yield c) t = omega (arith, went-ahead t)
+        on (Over u) t = omega (arith, went-ahead t)
+
+    pub few-round : {m₀ : Mem} {k : ℕ} → Led (treeAt policy i) m₀ m k → Counts (treeAt policy i) m₀ → k + n < 18446744073709551616
+    few-round d f = omega (arith, f, led-ahead d, round-ahead)
+
+    -- a round by the node's way, as the code matched it
+    pub round-way : {v : Way} → v ≡ w → Round policy v i m m′ n x
+    round-way e = subst (λ (z : Way). Round policy z i m m′ n x) (sym e) r
+
+-- ---- the way that the code matched
+
+pub is-parallel : {w : declared.Way} → w ≡ ways.Parallel → wayOf w ≡ parallel
+unfolding wayOf
+is-parallel e = ap wayOf e
+
+pub is-sequential : {w : declared.Way} → w ≡ ways.Sequential → wayOf w ≡ sequential
+unfolding wayOf
+is-sequential e = ap wayOf e
+
+-- a pair of that way
+pub as-way : {q : NodeKind} {v w : Way} {j : Join} → q ≡ aPair v j → v ≡ w → q ≡ aPair w j
+as-way {j = j} e f = e ∙ ap (λ (x : Way). aPair x j) f
 
 -- ---- a phase that was begun
 
@@ -105,48 +147,16 @@ module _ (policy : Bytes) (i : ℕ) {m m′ : Mem} {x : Bool} (b : Begun (treeAt
 pub begun-on : {t : Tree} {m m′ m″ : Mem} {n : ℕ} {x : Progress} → Led t m m′ 0 → Went t m′ m″ n x → Went t m m″ n x
 begun-on {t} {m} {m′} {m″} {n} {x} d w = subst (λ (q : ℕ). Went t m m″ q x) (omega arith) (via d w)
 
--- ---- what came of a left side
+-- ---- the right side's turn on an insert
 
-pub came-as : {t l : Tree} {m m′ : Mem} {n : ℕ} {y : Progress} → Went t m m′ n y → {x : Fed} → x ≡ fedOf y → Came t l m m′ n x
-unfolding fedOf
-came-as {t} {l} {m} {m′} {n} {y} w e = subst (λ (x : Fed). Came t l m m′ n x) (sym e) (on y (w .gives))
-  where
-    on : (z : Progress) → Gives t m m′ n z → Came t l m m′ n (fedOf z)
-    on (Insert b) g = record { feeds = g; kept = w .kept; fewer = tt }
-    on (Done u) g = record { feeds = g; kept = w .kept; fewer = tt }
+module _ (j : Join) {n : ℕ} {l r : Tree} (sd : Numbered n l r) {m m′ : Mem} {k : ℕ} (d : FedOn (node sequential j n l r) r m m′ k) where
+  fed-led : Led (node sequential j n l r) m m′ k
+  unfolding numberOf
+  fed-led = record { leads = d .leads; kept = λ i o. d .kept i (outside sequential j n l r i o) (outside-right sequential j n l r i o) }
 
-pub came-out : {t l : Tree} {m m′ : Mem} {n : ℕ} {b : Action} → Went t m m′ n (Insert b) → Came t l m m′ n (Yield b)
-unfolding fedOf
-came-out w = came-as w refl
-
-pub came-over : {t l : Tree} {m m′ : Mem} {n : ℕ} {u : Bool} → Went t m m′ n (Done u) → Came t l m m′ n (Over u)
-unfolding fedOf
-came-over w = came-as w refl
-
-module _ (policy : Bytes) (i : ℕ) {l : Tree} {m m′ : Mem} {n : ℕ} {x : Fed} (w : Came (treeAt policy i) l m m′ n x) where
-  pub came-back : x ≡ Back → Led (treeAt policy i) m m′ n × (m′ i .stage ≡ 1)
-  came-back e =
-      let g : Feeds (treeAt policy i) m m′ n Back = subst (λ (y : Fed). Feeds (treeAt policy i) m m′ n y) e (w .feeds) in
-      (record { leads = g .0; kept = w .kept }, ap (λ (k : ℕ). m′ k .stage) (sym (number-at policy i)) ∙ g .1)
-
-  pub came-fewer : x ≡ Back → length (insertsOf (rest l m′)) < length (insertsOf (rest l m))
-  came-fewer e = subst (λ (y : Fed). Fewer l m m′ y) e (w .fewer)
-
-  pub came-yield : {b : Action} → x ≡ Yield b → Went (treeAt policy i) m m′ n (Insert b)
-  came-yield e = record { gives = subst (λ (y : Fed). Feeds (treeAt policy i) m m′ n y) e (w .feeds); kept = w .kept }
-
-  pub came-done : {u : Bool} → x ≡ Over u → Went (treeAt policy i) m m′ n (Done u)
-  came-done e = record { gives = subst (λ (y : Fed). Feeds (treeAt policy i) m m′ n y) e (w .feeds); kept = w .kept }
-
--- ---- the way that the code matched
-
-pub as-parallel : {q : NodeKind} {w : declared.Way} {j : Join} → q ≡ aPair (wayOf w) j → w ≡ ways.Parallel → q ≡ aPair parallel j
-unfolding wayOf
-as-parallel {q} {w} {j} e f = e ∙ ap (λ (v : declared.Way). aPair (wayOf v) j) f
-
-pub as-sequential : {q : NodeKind} {w : declared.Way} {j : Join} → q ≡ aPair (wayOf w) j → w ≡ ways.Sequential → q ≡ aPair sequential j
-unfolding wayOf
-as-sequential {q} {w} {j} e f = e ∙ ap (λ (v : declared.Way). aPair (wayOf v) j) f
+  fed-left : rest l m′ ≡ rest l m
+  unfolding numberOf
+  fed-left = rest-same l m m′ (λ i e. d .kept i (held-apart l e (sd .not-left)) (not-right-of-left sd i e))
 
 module _ {policy sets firsts state work : List ℕ} {i : ℕ} (h : Ready policy sets firsts state work i) where
   pub still : {state′ work′ : List ℕ} → length state′ ≡ length state → length work′ ≡ length work → Ready policy sets firsts state′ work′ i
@@ -279,8 +289,10 @@ module _ {policy sets firsts state work : List ℕ} {i : ℕ} (h : Ready policy 
         pub par-left-out : {b : Action} → y ≡ Insert b → Went (treeAt policy i) m m′ n (Insert b)
         par-left-out g = went-as (sym (here k)) refl (steps.par-left-insert (joinAt policy i) (apart k) ea eb s (at-side e g v))
 
-        pub par-left-end : {m″ : Mem} {u : Bool} → y ≡ Done u → Second i (rightAt policy i) u m′ m″ → Led (treeAt policy i) m m″ n
-        par-left-end g d = led-as (sym (here k)) (calls.to-second (joinAt policy i) (apart k) ea eb s (at-side e g v) d)
+        pub par-left-end : {m″ : Mem} {u : Bool} → y ≡ Done u → Second i (rightAt policy i) u m′ m″ → Round policy parallel i m m″ n Back
+        unfolding falling
+        par-left-end g d =
+            round-on policy i parallel 1 1 (led-as (sym (here k)) (calls.to-second (joinAt policy i) (apart k) ea eb s (at-side e g v) d)) s (d .told .stage) (omega arith)
 
     module _ {x : ℕ} (e : x ≡ rightAt policy i) {m : Mem} (s : (m i .stage ≡ 0 → ⊥) × (m i .stage ≡ 1 → ⊥)) where
       module _ {m′ : Mem} {n : ℕ} {y : Progress} (v : Went (treeAt policy x) m m′ n y) where
@@ -293,15 +305,25 @@ module _ {policy sets firsts state work : List ℕ} {i : ℕ} (h : Ready policy 
 
   module _ (k : kindAt policy i ≡ aPair sequential (joinAt policy i)) where
     -- what the right side's turn on an insert makes of the whole
-    module _ {m m′ : Mem} {n : ℕ} {x : Fed} (w : Was (treeAt policy i) (treeAt policy (rightAt policy i)) m m′ n x) where
-      pub fed-back : x ≡ Back → Led (treeAt policy i) m m′ n × (m′ i .stage ≡ 1)
-      fed-back f = let q = steps.was-back (joinAt policy i) (apart k) ea eb (was-as (here k) f w) in (led-as (sym (here k)) (q .0), q .1)
+    module _ {m m′ : Mem} {n : ℕ} where
+      was-seq : {x : Fed} → Was (treeAt policy i) (treeAt policy (rightAt policy i)) m m′ n x
+          → Was (node sequential (joinAt policy i) i (treeAt policy (leftAt policy i)) (treeAt policy (rightAt policy i))) (treeAt policy (rightAt policy i)) m m′ n x
+      was-seq w = was-as (here k) refl w
 
-      pub fed-yield : {b : Action} → x ≡ Yield b → Went (treeAt policy i) m m′ n (Insert b)
-      fed-yield f = went-as (sym (here k)) refl (steps.was-yield (joinAt policy i) (apart k) ea eb (was-as (here k) f w))
+      fed-yield : {b : Action} → Was (treeAt policy i) (treeAt policy (rightAt policy i)) m m′ n (Yield b) → Went (treeAt policy i) m m′ n (Insert b)
+      fed-yield w = went-as (sym (here k)) refl (steps.was-yield (joinAt policy i) (apart k) ea eb (was-seq w))
 
-      pub fed-over : {u : Bool} → x ≡ Over u → Went (treeAt policy i) m m′ n (Done u)
-      fed-over f = went-as (sym (here k)) refl (steps.was-over (joinAt policy i) (apart k) ea eb (was-as (here k) f w))
+      fed-over : {u : Bool} → Was (treeAt policy i) (treeAt policy (rightAt policy i)) m m′ n (Over u) → Went (treeAt policy i) m m′ n (Done u)
+      fed-over w = went-as (sym (here k)) refl (steps.was-over (joinAt policy i) (apart k) ea eb (was-seq w))
+
+      fed-round : m i .stage ≡ 3 → (x : Fed) → Was (treeAt policy i) (treeAt policy (rightAt policy i)) m m′ n x → Round policy sequential i m m′ n x
+      unfolding falling
+      fed-round s Back w =
+          let q = steps.was-back (joinAt policy i) (apart k) ea eb (was-seq w) in
+          round-on policy i sequential 3 0 (led-as (sym (here k)) (q .0)) s (q .1)
+          (omega (arith, ap (λ (p : Run). length (insertsOf p)) (steps.was-left (joinAt policy i) (apart k) ea eb (was-seq w))))
+      fed-round s (Yield c) w = round-out (fed-yield w)
+      fed-round s (Over u) w = round-over (fed-over w)
 
     -- the left side
     pub left-few : {x : ℕ} → x ≡ leftAt policy i → (m : Mem) → m i .stage ≡ 1 → Few policy i m → Few policy x m
@@ -321,30 +343,15 @@ module _ {policy sets firsts state work : List ℕ} {i : ℕ} (h : Ready policy 
                 × (length (insertsOf (rest (treeAt policy (leftAt policy i)) m″)) < length (insertsOf (rest (treeAt policy (leftAt policy i)) m)))
             given = calls.gives-on (joinAt policy i) (apart k) ea eb s (at-side e g v) (asked ∙ f) d
 
-            pub left-given : Led (treeAt policy i) m m″ n
-            left-given = led-as (sym (here k)) (given .0)
-
-            -- and once the right side's turn on it has gone on
-            pub left-fed : {m‴ : Mem} {q : ℕ} {b : Fed} → Was (treeAt policy i) (treeAt policy (rightAt policy i)) m″ m‴ q b
-                → Came (treeAt policy i) (treeAt policy (leftAt policy i)) m m‴ (n + q) b
-            left-fed {m‴} {q} {b} w = on b w
-              where
-                on : (y : Fed) → Was (treeAt policy i) (treeAt policy (rightAt policy i)) m″ m‴ q y
-                    → Came (treeAt policy i) (treeAt policy (leftAt policy i)) m m‴ (n + q) y
-                on Back w =
-                    let d = led-on left-given (fed-back w refl .0) in
-                    record {
-                      feeds = (d .leads, w .feeds .1);
-                      kept = d .kept;
-                      fewer = subst (λ (p : Run). length (insertsOf p) < length (insertsOf (rest (treeAt policy (leftAt policy i)) m)))
-                          (sym (steps.was-left (joinAt policy i) (apart k) ea eb (was-as (here k) refl w))) (given .1);
-                    }
-                on (Yield c) w = came-out (via left-given (fed-yield w refl))
-                on (Over u) w = came-over (via left-given (fed-over w refl))
+            pub left-given : Round policy sequential i m m″ n Back
+            unfolding falling
+            left-given = round-on policy i sequential 1 1 (led-as (sym (here k)) (given .0)) s (d .told .stage) (omega (arith, given .1))
 
         module _ {u : Bool} (g : y ≡ Done u) {m″ : Mem} {p : Part} (d : Parts (joinAt policy i) i (leftAt policy i) (rightAt policy i) u m′ m″ p) where
-          pub left-own : p ≡ Own → Led (treeAt policy i) m m″ n × (m″ i .stage ≡ 4)
-          left-own f = let q = calls.to-own (joinAt policy i) (apart k) ea eb s (at-side e g v) (subst (λ (z : Part). Parts (joinAt policy i) i (leftAt policy i) (rightAt policy i) u m′ m″ z) f d) in (led-as (sym (here k)) (q .0), q .1)
+          pub left-own : p ≡ Own → Round policy sequential i m m″ n Back
+          unfolding falling
+          left-own f = let q = calls.to-own (joinAt policy i) (apart k) ea eb s (at-side e g v) (subst (λ (z : Part). Parts (joinAt policy i) i (leftAt policy i) (rightAt policy i) u m′ m″ z) f d) in
+              round-on policy i sequential 1 3 (led-as (sym (here k)) (q .0)) s (q .1) (omega arith)
 
           pub left-end : {r : Bool} → p ≡ Ends r → Went (treeAt policy i) m m″ n (Done r)
           left-end f = went-as (sym (here k)) refl (calls.left-ends (joinAt policy i) (apart k) ea eb s (at-side e g v) (subst (λ (z : Part). Parts (joinAt policy i) i (leftAt policy i) (rightAt policy i) u m′ m″ z) f d))
@@ -366,11 +373,11 @@ module _ {policy sets firsts state work : List ℕ} {i : ℕ} (h : Ready policy 
     module _ {x : ℕ} (e : x ≡ rightAt policy i) {m : Mem} where
       module _ {m′ : Mem} {n : ℕ} {y : Progress} (v : Went (treeAt policy x) m m′ n y) where
         module _ {b : Action} (g : y ≡ Insert b) where
-          pub fed-out : m i .stage ≡ 2 → Was (treeAt policy i) (treeAt policy (rightAt policy i)) m m′ n (Yield b)
-          fed-out s = was-as (sym (here k)) refl (steps.fed-insert (joinAt policy i) (apart k) ea eb s (at-side e g v))
+          pub fed-out : m i .stage ≡ 2 → Went (treeAt policy i) m m′ n (Insert b)
+          fed-out s = fed-yield (was-as (sym (here k)) refl (steps.fed-insert (joinAt policy i) (apart k) ea eb s (at-side e g v)))
 
-          pub after-out : m i .stage ≡ 3 → Was (treeAt policy i) (treeAt policy (rightAt policy i)) m m′ n (Yield b)
-          after-out s = was-as (sym (here k)) refl (steps.after-insert (joinAt policy i) (apart k) ea eb s (at-side e g v))
+          pub after-out : m i .stage ≡ 3 → Went (treeAt policy i) m m′ n (Insert b)
+          after-out s = fed-yield (was-as (sym (here k)) refl (steps.after-insert (joinAt policy i) (apart k) ea eb s (at-side e g v)))
 
           pub own-out : m i .stage ≡ 4 → Went (treeAt policy i) m m′ n (Insert b)
           own-out s = went-as (sym (here k)) refl (steps.own-insert (joinAt policy i) (apart k) ea eb s (at-side e g v))
@@ -380,30 +387,39 @@ module _ {policy sets firsts state work : List ℕ} {i : ℕ} (h : Ready policy 
 
         module _ {u : Bool} (g : y ≡ Done u) {m″ : Mem} where
           module _ (s : m i .stage ≡ 2) {o : Bool} (d : PassedOn (joinAt policy i) i (rightAt policy i) u m′ m″ o) where
-            pub fed-passes : o ≡ true → {b : Action} → b ≡ m i .fed → Was (treeAt policy i) (treeAt policy (rightAt policy i)) m m″ n (Yield b)
-            fed-passes f {b} q = was-as (sym (here k)) (ap Yield (sym q)) (calls.passes-out (joinAt policy i) (apart k) ea eb s (at-side e g v) d f)
+            pub fed-passes : o ≡ true → {b : Action} → b ≡ m i .fed → Went (treeAt policy i) m m″ n (Insert b)
+            fed-passes f {b} q = fed-yield (was-as (sym (here k)) (ap Yield (sym q)) (calls.passes-out (joinAt policy i) (apart k) ea eb s (at-side e g v) d f))
 
-            pub fed-passed : o ≡ false → FedOn (treeAt policy i) (treeAt policy (rightAt policy i)) m m″ n × (m″ i .stage ≡ 3)
+            pub fed-passed : o ≡ false → Round policy sequential i m m″ n Back
+            unfolding falling
             fed-passed f =
                 let q = calls.passes-on (joinAt policy i) (apart k) ea eb s (at-side e g v) d f in
-                (subst (λ (t : Tree). FedOn t (treeAt policy (rightAt policy i)) m m″ n) (sym (here k)) (q .0), q .1)
+                round-on policy i sequential 2 2 (led-as (sym (here k)) (fed-led (joinAt policy i) (apart k) (q .0))) s (q .1)
+                (omega (arith, ap (λ (p : Run). length (insertsOf p)) (fed-left (joinAt policy i) (apart k) (q .0))))
 
-          pub after-end : m i .stage ≡ 3 → {r : Fed} → Finished (joinAt policy i) i (rightAt policy i) m′ m″ r
-              → Was (treeAt policy i) (treeAt policy (rightAt policy i)) m m″ n r
-          after-end s d = was-as (sym (here k)) refl (calls.finish (joinAt policy i) (apart k) ea eb s (at-side e g v) d)
+          pub after-end : m i .stage ≡ 3 → {r : Fed} → Finished (joinAt policy i) i (rightAt policy i) m′ m″ r → Round policy sequential i m m″ n r
+          after-end s {r} d = fed-round s r (was-as (sym (here k)) refl (calls.finish (joinAt policy i) (apart k) ea eb s (at-side e g v) d))
 
           pub own-over : m i .stage ≡ 4 → {r : Bool} → Owned (joinAt policy i) i (leftAt policy i) (rightAt policy i) u m′ m″ r → Went (treeAt policy i) m m″ n (Done r)
           own-over s d = went-as (sym (here k)) refl (calls.owns (joinAt policy i) (apart k) ea eb s (at-side e g v) d)
 
           module _ (s : m i .stage ≡ 5) {o : Bool} (d : Firsts (joinAt policy i) i (leftAt policy i) (rightAt policy i) m′ m″ o) where
-            pub first-left : o ≡ true → Led (treeAt policy i) m m″ n × (m″ i .stage ≡ 1)
-            first-left f = let q = calls.firsts-on (joinAt policy i) (apart k) ea eb s (at-side e g v) (subst (λ (z : Bool). Firsts (joinAt policy i) i (leftAt policy i) (rightAt policy i) m′ m″ z) f d) in (led-as (sym (here k)) (q .0), q .1)
+            pub first-left : o ≡ true → Round policy sequential i m m″ n Back
+            unfolding falling
+            first-left f =
+                let d₁ = subst (λ (z : Bool). Firsts (joinAt policy i) i (leftAt policy i) (rightAt policy i) m′ m″ z) f d in
+                let q = calls.firsts-on (joinAt policy i) (apart k) ea eb s (at-side e g v) d₁ in
+                round-on policy i sequential 5 0 (led-as (sym (here k)) (q .0)) s (q .1)
+                (omega (
+                  arith,
+                  ap (λ (p : Run). length (insertsOf p)) (handed-rest (told-handed (d₁ .1)) (treeAt policy (leftAt policy i)) ea (apart k .not-left)
+                      ∙ ap (ranOf (treeAt policy (leftAt policy i)) after) (held-l (apart k) (at-side e g v .kept))),
+                ))
 
             pub first-over : o ≡ false → Went (treeAt policy i) m m″ n (Done false)
             first-over f = went-as (sym (here k)) refl (calls.firsts-end (joinAt policy i) (apart k) ea eb s (at-side e g v) (subst (λ (z : Bool). Firsts (joinAt policy i) i (leftAt policy i) (rightAt policy i) m′ m″ z) f d))
 
     -- a node that was decided as an insert went out
-    pub late-over : (m : Mem) → (m i .stage ≡ 0 → ⊥) → (m i .stage ≡ 1 → ⊥) → (m i .stage ≡ 4 → ⊥) → (m i .stage ≡ 5 → ⊥) → 5 < m i .stage → {u : Bool} → u ≡ m i .sup
-        → Went (treeAt policy i) m m 0 (Done u)
-    late-over m f₀ f₁ f₄ f₅ l q =
-        went-as (sym (here k)) (ap Done (sym q)) (steps.seq-over (joinAt policy i) (apart k) ea eb m f₀ f₁ (λ z. omega arith) (λ z. omega arith) f₄ f₅)
+    pub late-over : (m : Mem) → (m i .stage ≡ 0 → ⊥) → (m i .stage ≡ 1 → ⊥) → (m i .stage ≡ 2 → ⊥) → (m i .stage ≡ 3 → ⊥) → (m i .stage ≡ 4 → ⊥) → (m i .stage ≡ 5 → ⊥)
+        → {u : Bool} → u ≡ m i .sup → Went (treeAt policy i) m m 0 (Done u)
+    late-over m f₀ f₁ f₂ f₃ f₄ f₅ q = went-as (sym (here k)) (ap Done (sym q)) (steps.seq-over (joinAt policy i) (apart k) ea eb m f₀ f₁ f₂ f₃ f₄ f₅)

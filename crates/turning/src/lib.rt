@@ -1,13 +1,14 @@
-// The turn: a node's phase goes on to its next insert, or to its end. A node's turn calls its sides' turns; the height falls.
+// The turn: a node's phase goes on to its next insert, or to its end. A node's turn calls its sides' turns; the height falls. It goes by
+// rounds: in each one side goes on, and the node does what follows, so that a node takes one frame of the stack.
 ghost use mathlib.Core.Path.{_≡_};
-ghost use Prim.Native.Nat.{_≤_};
 ghost use Rattle.policy.specs.Tree.{parallel, sequential, aPair};
 ghost use Rattle.policy.specs.Tree.{treeAt};
+ghost use Rattle.reading.specs.Kinds.{wayOf};
 ghost use Rattle.memory.specs.Memory.{view};
 ghost use Rattle.memory.specs.Promises as promises;
-ghost use Rattle.memory.specs.Promises.{Was, Came, fedOf};
-ghost use Rattle.sides.specs.Sides.{kindAt, leftAt, rightAt, joinAt};
+ghost use Rattle.sides.specs.Sides.{kindAt, joinAt};
 ghost use Rattle.starting.specs.Ready.{Ready, Few};
+ghost use Rattle.turning.specs.Rounds.{Round};
 use memory::cells::get;
 use memory::outcomes::Fed;
 use memory::outcomes::Part;
@@ -32,7 +33,7 @@ use starting::begin;
 use starting::leaf_at;
 use starting::over_at;
 
-// A number of steps, and what they led to.
+// A round: a number of steps, and what they led to.
 pub struct Turned {
     pub steps: usize,
     pub what: Fed,
@@ -41,8 +42,8 @@ pub struct Turned {
 // A node's next insert, or the end of its phase.
 pub fn advance(
     policy: &[u8],
-    sets: &[u64],
-    firsts: &[u16],
+    sets: &[u64; 31],
+    firsts: &[u16; 31],
     state: &mut [u8],
     work: &mut [u8],
     node: usize,
@@ -63,142 +64,29 @@ pub fn advance(
                     what: Progress::Done(false),
                 };
             }
-            match way {
-                Way::Parallel => parallel(policy, sets, firsts, state, work, node),
-                Way::Sequential => sequential(policy, sets, firsts, state, work, node),
-            }
+            rounds(policy, sets, firsts, state, work, node, way)
         }
     }
 }
 
-// A parallel node whose phase has begun: the left side to its end, then the right.
-fn parallel(
+// A node whose phase has begun, round by round.
+fn rounds(
     policy: &[u8],
-    sets: &[u64],
-    firsts: &[u16],
+    sets: &[u64; 31],
+    firsts: &[u16; 31],
     state: &mut [u8],
     work: &mut [u8],
     node: usize,
+    way: Way,
 ) -> Went
-    requires { ⌜ (Ready (now policy) (now sets) (now firsts) (now state) (now work) node × Few (now policy) node (view (now state) (now work))) × (kindAt (now policy) node ≡ aPair parallel (joinAt (now policy) node)) × ((view (now state) (now work)) node .stage ≡ 0 → ⊥) ⌝ }
-    ensures { λ r. ⌜ promises.Went (treeAt (now (policy .entry)) node) (view (now (state .entry)) (now (work .entry))) (view (now (state .exit)) (now (work .exit))) (r .steps) (r .what) ⌝ }
-{
-    let cell = get(state, work, node);
-    if cell.stage != 1 {
-        return second(policy, sets, firsts, state, work, node);
-    }
-    let p = advance(policy, sets, firsts, state, work, left_of(policy, node));
-    let what = p.what;
-    match what {
-        Progress::Insert(b) => Went {
-            steps: p.steps,
-            what: Progress::Insert(b),
-        },
-        Progress::Done(u) => {
-            to_right(policy, state, work, node, u);
-            let q = second(policy, sets, firsts, state, work, node);
-            let last = q.what;
-            Went {
-                steps: p.steps + q.steps,
-                what: last,
-            }
-        }
-    }
-}
-
-// A parallel node at its right side.
-fn second(
-    policy: &[u8],
-    sets: &[u64],
-    firsts: &[u16],
-    state: &mut [u8],
-    work: &mut [u8],
-    node: usize,
-) -> Went
-    requires { ⌜ (Ready (now policy) (now sets) (now firsts) (now state) (now work) node × Few (now policy) node (view (now state) (now work))) × (kindAt (now policy) node ≡ aPair parallel (joinAt (now policy) node)) × (((view (now state) (now work)) node .stage ≡ 0 → ⊥) × ((view (now state) (now work)) node .stage ≡ 1 → ⊥)) ⌝ }
-    ensures { λ r. ⌜ promises.Went (treeAt (now (policy .entry)) node) (view (now (state .entry)) (now (work .entry))) (view (now (state .exit)) (now (work .exit))) (r .steps) (r .what) ⌝ }
-{
-    let p = advance(policy, sets, firsts, state, work, right_of(policy, node));
-    let what = p.what;
-    match what {
-        Progress::Insert(b) => Went {
-            steps: p.steps,
-            what: Progress::Insert(b),
-        },
-        Progress::Done(u) => Went {
-            steps: p.steps,
-            what: Progress::Done(conclude(policy, state, work, node, u)),
-        },
-    }
-}
-
-// A sequential node whose phase has begun.
-fn sequential(
-    policy: &[u8],
-    sets: &[u64],
-    firsts: &[u16],
-    state: &mut [u8],
-    work: &mut [u8],
-    node: usize,
-) -> Went
-    requires { ⌜ (Ready (now policy) (now sets) (now firsts) (now state) (now work) node × Few (now policy) node (view (now state) (now work))) × (kindAt (now policy) node ≡ aPair sequential (joinAt (now policy) node)) × ((view (now state) (now work)) node .stage ≡ 0 → ⊥) ⌝ }
-    ensures { λ r. ⌜ promises.Went (treeAt (now (policy .entry)) node) (view (now (state .entry)) (now (work .entry))) (view (now (state .exit)) (now (work .exit))) (r .steps) (r .what) ⌝ }
-{
-    let cell = get(state, work, node);
-    if cell.stage == 1 {
-        return stream(policy, sets, firsts, state, work, node);
-    }
-    if cell.stage == 4 {
-        return own(policy, sets, firsts, state, work, node);
-    }
-    if cell.stage == 5 {
-        return first(policy, sets, firsts, state, work, node);
-    }
-    if cell.stage > 5 {
-        return Went {
-            steps: 0,
-            what: Progress::Done(cell.sup == 1),
-        };
-    }
-    let f = feed(policy, sets, firsts, state, work, node);
-    let what = f.what;
-    match what {
-        Fed::Back => {
-            let p = stream(policy, sets, firsts, state, work, node);
-            let last = p.what;
-            Went {
-                steps: f.steps + p.steps,
-                what: last,
-            }
-        }
-        Fed::Yield(b) => Went {
-            steps: f.steps,
-            what: Progress::Insert(b),
-        },
-        Fed::Over(u) => Went {
-            steps: f.steps,
-            what: Progress::Done(u),
-        },
-    }
-}
-
-// A sequential node at its left side, up to its next insert or its end.
-fn stream(
-    policy: &[u8],
-    sets: &[u64],
-    firsts: &[u16],
-    state: &mut [u8],
-    work: &mut [u8],
-    node: usize,
-) -> Went
-    requires { ⌜ (Ready (now policy) (now sets) (now firsts) (now state) (now work) node × Few (now policy) node (view (now state) (now work))) × (kindAt (now policy) node ≡ aPair sequential (joinAt (now policy) node)) × ((view (now state) (now work)) node .stage ≡ 1) ⌝ }
+    requires { ⌜ (Ready (now policy) (now sets) (now firsts) (now state) (now work) node × Few (now policy) node (view (now state) (now work))) × ((kindAt (now policy) node ≡ aPair (wayOf way) (joinAt (now policy) node)) × ((view (now state) (now work)) node .stage ≡ 0 → ⊥)) ⌝ }
     ensures { λ r. ⌜ promises.Went (treeAt (now (policy .entry)) node) (view (now (state .entry)) (now (work .entry))) (view (now (state .exit)) (now (work .exit))) (r .steps) (r .what) ⌝ }
 {
     let mut steps = 0;
     loop {
-        let f = from_left(policy, sets, firsts, state, work, node);
-        steps += f.steps;
-        let what = f.what;
+        let r = round(policy, sets, firsts, state, work, node, way);
+        steps += r.steps;
+        let what = r.what;
         match what {
             Fed::Back => {}
             Fed::Yield(b) => {
@@ -217,17 +105,143 @@ fn stream(
     }
 }
 
-// The same, up to its left side's next insert or end: an insert that the right side regulates is given to it as a turn of its own.
-fn from_left(
+fn round(
     policy: &[u8],
-    sets: &[u64],
-    firsts: &[u16],
+    sets: &[u64; 31],
+    firsts: &[u16; 31],
+    state: &mut [u8],
+    work: &mut [u8],
+    node: usize,
+    way: Way,
+) -> Turned
+    requires { ⌜ (Ready (now policy) (now sets) (now firsts) (now state) (now work) node × Few (now policy) node (view (now state) (now work))) × ((kindAt (now policy) node ≡ aPair (wayOf way) (joinAt (now policy) node)) × ((view (now state) (now work)) node .stage ≡ 0 → ⊥)) ⌝ }
+    ensures { λ r. ⌜ Round (now (policy .entry)) (wayOf way) node (view (now (state .entry)) (now (work .entry))) (view (now (state .exit)) (now (work .exit))) (r .steps) (r .what) ⌝ }
+{
+    match way {
+        Way::Parallel => parallel(policy, sets, firsts, state, work, node),
+        Way::Sequential => sequential(policy, sets, firsts, state, work, node),
+    }
+}
+
+// A round of a parallel node: the left side to its end, then the right.
+fn parallel(
+    policy: &[u8],
+    sets: &[u64; 31],
+    firsts: &[u16; 31],
     state: &mut [u8],
     work: &mut [u8],
     node: usize,
 ) -> Turned
-    requires { ⌜ (Ready (now policy) (now sets) (now firsts) (now state) (now work) node × Few (now policy) node (view (now state) (now work))) × (kindAt (now policy) node ≡ aPair sequential (joinAt (now policy) node)) × ((view (now state) (now work)) node .stage ≡ 1) ⌝ }
-    ensures { λ r. ⌜ Came (treeAt (now (policy .entry)) node) (treeAt (now (policy .entry)) (leftAt (now (policy .entry)) node)) (view (now (state .entry)) (now (work .entry))) (view (now (state .exit)) (now (work .exit))) (r .steps) (r .what) ⌝ }
+    requires { ⌜ (Ready (now policy) (now sets) (now firsts) (now state) (now work) node × Few (now policy) node (view (now state) (now work))) × ((kindAt (now policy) node ≡ aPair parallel (joinAt (now policy) node)) × ((view (now state) (now work)) node .stage ≡ 0 → ⊥)) ⌝ }
+    ensures { λ r. ⌜ Round (now (policy .entry)) parallel node (view (now (state .entry)) (now (work .entry))) (view (now (state .exit)) (now (work .exit))) (r .steps) (r .what) ⌝ }
+{
+    let cell = get(state, work, node);
+    if cell.stage == 1 {
+        return left_first(policy, sets, firsts, state, work, node);
+    }
+    second(policy, sets, firsts, state, work, node)
+}
+
+// A parallel node at its left side.
+fn left_first(
+    policy: &[u8],
+    sets: &[u64; 31],
+    firsts: &[u16; 31],
+    state: &mut [u8],
+    work: &mut [u8],
+    node: usize,
+) -> Turned
+    requires { ⌜ (Ready (now policy) (now sets) (now firsts) (now state) (now work) node × Few (now policy) node (view (now state) (now work))) × ((kindAt (now policy) node ≡ aPair parallel (joinAt (now policy) node)) × ((view (now state) (now work)) node .stage ≡ 1)) ⌝ }
+    ensures { λ r. ⌜ Round (now (policy .entry)) parallel node (view (now (state .entry)) (now (work .entry))) (view (now (state .exit)) (now (work .exit))) (r .steps) (r .what) ⌝ }
+{
+    let p = advance(policy, sets, firsts, state, work, left_of(policy, node));
+    let what = p.what;
+    match what {
+        Progress::Insert(b) => Turned {
+            steps: p.steps,
+            what: Fed::Yield(b),
+        },
+        Progress::Done(u) => {
+            to_right(policy, state, work, node, u);
+            Turned {
+                steps: p.steps,
+                what: Fed::Back,
+            }
+        }
+    }
+}
+
+// A parallel node at its right side.
+fn second(
+    policy: &[u8],
+    sets: &[u64; 31],
+    firsts: &[u16; 31],
+    state: &mut [u8],
+    work: &mut [u8],
+    node: usize,
+) -> Turned
+    requires { ⌜ (Ready (now policy) (now sets) (now firsts) (now state) (now work) node × Few (now policy) node (view (now state) (now work))) × ((kindAt (now policy) node ≡ aPair parallel (joinAt (now policy) node)) × (((view (now state) (now work)) node .stage ≡ 0 → ⊥) × ((view (now state) (now work)) node .stage ≡ 1 → ⊥))) ⌝ }
+    ensures { λ r. ⌜ Round (now (policy .entry)) parallel node (view (now (state .entry)) (now (work .entry))) (view (now (state .exit)) (now (work .exit))) (r .steps) (r .what) ⌝ }
+{
+    let p = advance(policy, sets, firsts, state, work, right_of(policy, node));
+    let what = p.what;
+    match what {
+        Progress::Insert(b) => Turned {
+            steps: p.steps,
+            what: Fed::Yield(b),
+        },
+        Progress::Done(u) => Turned {
+            steps: p.steps,
+            what: Fed::Over(conclude(policy, state, work, node, u)),
+        },
+    }
+}
+
+// A round of a sequential node, by its stage.
+fn sequential(
+    policy: &[u8],
+    sets: &[u64; 31],
+    firsts: &[u16; 31],
+    state: &mut [u8],
+    work: &mut [u8],
+    node: usize,
+) -> Turned
+    requires { ⌜ (Ready (now policy) (now sets) (now firsts) (now state) (now work) node × Few (now policy) node (view (now state) (now work))) × ((kindAt (now policy) node ≡ aPair sequential (joinAt (now policy) node)) × ((view (now state) (now work)) node .stage ≡ 0 → ⊥)) ⌝ }
+    ensures { λ r. ⌜ Round (now (policy .entry)) sequential node (view (now (state .entry)) (now (work .entry))) (view (now (state .exit)) (now (work .exit))) (r .steps) (r .what) ⌝ }
+{
+    let cell = get(state, work, node);
+    if cell.stage == 1 {
+        return from_left(policy, sets, firsts, state, work, node);
+    }
+    if cell.stage == 2 {
+        return feed(policy, sets, firsts, state, work, node, cell.fed);
+    }
+    if cell.stage == 3 {
+        return fed_after(policy, sets, firsts, state, work, node);
+    }
+    if cell.stage == 4 {
+        return own(policy, sets, firsts, state, work, node);
+    }
+    if cell.stage == 5 {
+        return first(policy, sets, firsts, state, work, node);
+    }
+    Turned {
+        steps: 0,
+        what: Fed::Over(cell.sup == 1),
+    }
+}
+
+// A sequential node at its left side: an insert that the right side regulates is given to it as a turn of its own.
+fn from_left(
+    policy: &[u8],
+    sets: &[u64; 31],
+    firsts: &[u16; 31],
+    state: &mut [u8],
+    work: &mut [u8],
+    node: usize,
+) -> Turned
+    requires { ⌜ (Ready (now policy) (now sets) (now firsts) (now state) (now work) node × Few (now policy) node (view (now state) (now work))) × ((kindAt (now policy) node ≡ aPair sequential (joinAt (now policy) node)) × ((view (now state) (now work)) node .stage ≡ 1)) ⌝ }
+    ensures { λ r. ⌜ Round (now (policy .entry)) sequential node (view (now (state .entry)) (now (work .entry))) (view (now (state .exit)) (now (work .exit))) (r .steps) (r .what) ⌝ }
 {
     let left = left_of(policy, node);
     let right = right_of(policy, node);
@@ -242,24 +256,18 @@ fn from_left(
                 };
             }
             give(policy, state, work, node, b);
-            let f = feed(policy, sets, firsts, state, work, node);
-            let then = f.what;
             Turned {
-                steps: p.steps + f.steps,
-                what: then,
+                steps: p.steps,
+                what: Fed::Back,
             }
         }
         Progress::Done(u) => {
             let e = part(policy, state, work, node, u);
             match e {
-                Part::Own => {
-                    let q = own(policy, sets, firsts, state, work, node);
-                    let last = q.what;
-                    Turned {
-                        steps: p.steps + q.steps,
-                        what: as_fed(last),
-                    }
-                }
+                Part::Own => Turned {
+                    steps: p.steps,
+                    what: Fed::Back,
+                },
                 Part::Ends(v) => Turned {
                     steps: p.steps,
                     what: Fed::Over(v),
@@ -269,31 +277,19 @@ fn from_left(
     }
 }
 
-fn as_fed(x: Progress) -> Fed
-    ensures { λ r. ⌜ r ≡ fedOf x ⌝ }
-{
-    match x {
-        Progress::Insert(b) => Fed::Yield(b),
-        Progress::Done(u) => Fed::Over(u),
-    }
-}
-
 // A sequential node at its right side's turn on an insert.
 fn feed(
     policy: &[u8],
-    sets: &[u64],
-    firsts: &[u16],
+    sets: &[u64; 31],
+    firsts: &[u16; 31],
     state: &mut [u8],
     work: &mut [u8],
     node: usize,
+    fed: u8,
 ) -> Turned
-    requires { ⌜ (Ready (now policy) (now sets) (now firsts) (now state) (now work) node × Few (now policy) node (view (now state) (now work))) × (kindAt (now policy) node ≡ aPair sequential (joinAt (now policy) node)) × ((2 ≤ (view (now state) (now work)) node .stage) × ((view (now state) (now work)) node .stage ≤ 3)) ⌝ }
-    ensures { λ r. ⌜ Was (treeAt (now (policy .entry)) node) (treeAt (now (policy .entry)) (rightAt (now (policy .entry)) node)) (view (now (state .entry)) (now (work .entry))) (view (now (state .exit)) (now (work .exit))) (r .steps) (r .what) ⌝ }
+    requires { ⌜ (Ready (now policy) (now sets) (now firsts) (now state) (now work) node × Few (now policy) node (view (now state) (now work))) × ((kindAt (now policy) node ≡ aPair sequential (joinAt (now policy) node)) × (((view (now state) (now work)) node .stage ≡ 2) × (fed ≡ (view (now state) (now work)) node .fed))) ⌝ }
+    ensures { λ r. ⌜ Round (now (policy .entry)) sequential node (view (now (state .entry)) (now (work .entry))) (view (now (state .exit)) (now (work .exit))) (r .steps) (r .what) ⌝ }
 {
-    let cell = get(state, work, node);
-    if cell.stage == 3 {
-        return fed_after(policy, sets, firsts, state, work, node);
-    }
     let p = advance(policy, sets, firsts, state, work, right_of(policy, node));
     let what = p.what;
     match what {
@@ -305,14 +301,12 @@ fn feed(
             if pass(policy, state, work, node, u) {
                 return Turned {
                     steps: p.steps,
-                    what: Fed::Yield(cell.fed),
+                    what: Fed::Yield(fed),
                 };
             }
-            let f = fed_after(policy, sets, firsts, state, work, node);
-            let last = f.what;
             Turned {
-                steps: p.steps + f.steps,
-                what: last,
+                steps: p.steps,
+                what: Fed::Back,
             }
         }
     }
@@ -321,14 +315,14 @@ fn feed(
 // The same, after its verdict.
 fn fed_after(
     policy: &[u8],
-    sets: &[u64],
-    firsts: &[u16],
+    sets: &[u64; 31],
+    firsts: &[u16; 31],
     state: &mut [u8],
     work: &mut [u8],
     node: usize,
 ) -> Turned
-    requires { ⌜ (Ready (now policy) (now sets) (now firsts) (now state) (now work) node × Few (now policy) node (view (now state) (now work))) × (kindAt (now policy) node ≡ aPair sequential (joinAt (now policy) node)) × ((view (now state) (now work)) node .stage ≡ 3) ⌝ }
-    ensures { λ r. ⌜ Was (treeAt (now (policy .entry)) node) (treeAt (now (policy .entry)) (rightAt (now (policy .entry)) node)) (view (now (state .entry)) (now (work .entry))) (view (now (state .exit)) (now (work .exit))) (r .steps) (r .what) ⌝ }
+    requires { ⌜ (Ready (now policy) (now sets) (now firsts) (now state) (now work) node × Few (now policy) node (view (now state) (now work))) × ((kindAt (now policy) node ≡ aPair sequential (joinAt (now policy) node)) × ((view (now state) (now work)) node .stage ≡ 3)) ⌝ }
+    ensures { λ r. ⌜ Round (now (policy .entry)) sequential node (view (now (state .entry)) (now (work .entry))) (view (now (state .exit)) (now (work .exit))) (r .steps) (r .what) ⌝ }
 {
     let p = advance(policy, sets, firsts, state, work, right_of(policy, node));
     let what = p.what;
@@ -347,25 +341,25 @@ fn fed_after(
 // A sequential node at its right side's own part.
 fn own(
     policy: &[u8],
-    sets: &[u64],
-    firsts: &[u16],
+    sets: &[u64; 31],
+    firsts: &[u16; 31],
     state: &mut [u8],
     work: &mut [u8],
     node: usize,
-) -> Went
-    requires { ⌜ (Ready (now policy) (now sets) (now firsts) (now state) (now work) node × Few (now policy) node (view (now state) (now work))) × (kindAt (now policy) node ≡ aPair sequential (joinAt (now policy) node)) × ((view (now state) (now work)) node .stage ≡ 4) ⌝ }
-    ensures { λ r. ⌜ promises.Went (treeAt (now (policy .entry)) node) (view (now (state .entry)) (now (work .entry))) (view (now (state .exit)) (now (work .exit))) (r .steps) (r .what) ⌝ }
+) -> Turned
+    requires { ⌜ (Ready (now policy) (now sets) (now firsts) (now state) (now work) node × Few (now policy) node (view (now state) (now work))) × ((kindAt (now policy) node ≡ aPair sequential (joinAt (now policy) node)) × ((view (now state) (now work)) node .stage ≡ 4)) ⌝ }
+    ensures { λ r. ⌜ Round (now (policy .entry)) sequential node (view (now (state .entry)) (now (work .entry))) (view (now (state .exit)) (now (work .exit))) (r .steps) (r .what) ⌝ }
 {
     let p = advance(policy, sets, firsts, state, work, right_of(policy, node));
     let what = p.what;
     match what {
-        Progress::Insert(b) => Went {
+        Progress::Insert(b) => Turned {
             steps: p.steps,
-            what: Progress::Insert(b),
+            what: Fed::Yield(b),
         },
-        Progress::Done(u) => Went {
+        Progress::Done(u) => Turned {
             steps: p.steps,
-            what: Progress::Done(own_end(policy, state, work, node, u)),
+            what: Fed::Over(own_end(policy, state, work, node, u)),
         },
     }
 }
@@ -373,34 +367,32 @@ fn own(
 // A sequential node at its right side, which goes first after the verdict.
 fn first(
     policy: &[u8],
-    sets: &[u64],
-    firsts: &[u16],
+    sets: &[u64; 31],
+    firsts: &[u16; 31],
     state: &mut [u8],
     work: &mut [u8],
     node: usize,
-) -> Went
-    requires { ⌜ (Ready (now policy) (now sets) (now firsts) (now state) (now work) node × Few (now policy) node (view (now state) (now work))) × (kindAt (now policy) node ≡ aPair sequential (joinAt (now policy) node)) × ((view (now state) (now work)) node .stage ≡ 5) ⌝ }
-    ensures { λ r. ⌜ promises.Went (treeAt (now (policy .entry)) node) (view (now (state .entry)) (now (work .entry))) (view (now (state .exit)) (now (work .exit))) (r .steps) (r .what) ⌝ }
+) -> Turned
+    requires { ⌜ (Ready (now policy) (now sets) (now firsts) (now state) (now work) node × Few (now policy) node (view (now state) (now work))) × ((kindAt (now policy) node ≡ aPair sequential (joinAt (now policy) node)) × ((view (now state) (now work)) node .stage ≡ 5)) ⌝ }
+    ensures { λ r. ⌜ Round (now (policy .entry)) sequential node (view (now (state .entry)) (now (work .entry))) (view (now (state .exit)) (now (work .exit))) (r .steps) (r .what) ⌝ }
 {
     let p = advance(policy, sets, firsts, state, work, right_of(policy, node));
     let what = p.what;
     match what {
-        Progress::Insert(b) => Went {
+        Progress::Insert(b) => Turned {
             steps: p.steps,
-            what: Progress::Insert(b),
+            what: Fed::Yield(b),
         },
         Progress::Done(_) => {
             if to_left(policy, state, work, node) {
-                let q = stream(policy, sets, firsts, state, work, node);
-                let last = q.what;
-                return Went {
-                    steps: p.steps + q.steps,
-                    what: last,
+                return Turned {
+                    steps: p.steps,
+                    what: Fed::Back,
                 };
             }
-            Went {
+            Turned {
                 steps: p.steps,
-                what: Progress::Done(false),
+                what: Fed::Over(false),
             }
         }
     }

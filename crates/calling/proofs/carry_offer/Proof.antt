@@ -37,8 +37,6 @@ carry-offer-spec =
     (λ c. search needs)
     prepare-requires
     (λ c. search needs)
-    (λ c. search needs)
-    (λ c. search needs)
     play-requires
     finish-requires
     (λ c. search needs)

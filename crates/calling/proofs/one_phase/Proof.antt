@@ -26,8 +26,6 @@ one-phase-spec =
     (λ c. search needs)
     (λ c. search needs)
     prepare-requires
-    (λ c. search needs)
-    (λ c. search needs)
     drive-requires
     (λ c κs. search needs)
     (λ c. search needs)

@@ -7,7 +7,7 @@ use Rattle.calling.proofs.play.Tie as tie
 
 turn-requires : tie.Need-turn-requires
 turn-requires c κs =
-    let st = c .before .before .before .before .before .before .before .before .before .before .before .before .before in
+    let st = c .before .before .before .before .before .before .before .before .before .before .before .before in
     let h = st .pre in
     (h, root-asked (h .0) (st .args .action) _ ∙ (sym (c .before .before .before .before .asks .ensures) ∙ c .before .before .before .if1 .taken))
 
@@ -16,7 +16,7 @@ returns c = c .before .before .before .before .before .before .turn .ensures
 
 returns-2 : tie.Need-returns-2
 returns-2 c =
-    let st = c .before .before .before .before .before .before .before .before .before .before .before .before .before .before in
+    let st = c .before .before .before .before .before .before .before .before .before .before .before .before .before in
     unasked-played (st .args .action) (root-asked (st .pre .0) (st .args .action) _ ∙ (sym (c .before .before .before .before .before .asks .ensures) ∙ c .before .before .before .before .if1 .left)) (c .before .before .say .ensures)
 
 pub play-spec : {M : Type 1} → statement M

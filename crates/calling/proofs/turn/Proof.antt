@@ -9,12 +9,12 @@ use Rattle.calling.proofs.turn.Statement.{statement}
 use Rattle.calling.proofs.turn.Tie as tie
 
 drive-requires : tie.Need-drive-requires
-drive-requires c κs = let st = c .before .before .before .before .before .before .before .before .before in let h = st .pre .0 in (h .0, phase-fits (h .0 .passed) _ _ (st .args .events .now) (h .1))
+drive-requires c κs = let st = c .before .before .before .before .before .before .before in let h = st .pre .0 in (h .0, phase-fits (h .0 .passed) _ _ (st .args .events .now) (h .1))
 
 judge-requires : tie.Need-judge-requires
 unfolding phaseOf
 judge-requires c κs =
-    let st = c .before .before .before .before .before .before .before .before .before .before .before .before .before .before .before .before .before .before in
+    let st = c .before .before .before .before .before .before .before .before .before .before .before .before .before .before .before .before in
     let h = st .pre .0 in
     let d = c .before .before .before .before .before .before .before .before .drive in
     (d .kept .1 .1 .1 .0 ∙ h .0 .states, verdict-room (h .0 .passed) (st .args .action) (h .1) (d .ensures) (d .kept .1 .1 .1 .1 .1 .0))
@@ -22,14 +22,14 @@ judge-requires c κs =
 mul-drive : tie.Need-mul-drive
 unfolding phaseOf
 mul-drive c =
-    let st = c .before .before .before .before .before .before .before .before .before .before .before .before .before .before .before .before .before .before .before .before .before .before .before .before in
+    let st = c .before .before .before .before .before .before .before .before .before .before .before .before .before .before .before .before .before .before .before .before .before .before in
     let h = st .pre .0 in
     omega (arith, count-fits (h .0 .passed) (st .args .action) (h .1) (c .before .before .before .before .before .before .before .before .before .before .before .before .before .before .drive .ensures) _ (c .before .before .before .before .before .judge .ensures))
 
 drive-requires-2 : tie.Need-drive-requires-2
 unfolding phaseOf
 drive-requires-2 c κs =
-    let st = c .before .before .before .before .before .before .before .before .before .before .before .before .before .before .before .before .before .before .before .before .before .before .before .before in
+    let st = c .before .before .before .before .before .before .before .before .before .before .before .before .before .before .before .before .before .before .before .before .before .before in
     let h = st .pre .0 in
     let d = c .before .before .before .before .before .before .before .before .before .before .before .before .before .before .drive in
     let j = c .before .before .before .before .before .judge in (
@@ -43,7 +43,7 @@ drive-requires-2 c κs =
 add-result : tie.Need-add-result
 unfolding phaseOf
 add-result c =
-    let st = c .before .before .before .before .before .before .before .before .before .before .before .before .before .before .before .before .before .before .before .before .before .before .before .before .before .before .before .before .before .before .before .before in
+    let st = c .before .before .before .before .before .before .before .before .before .before .before .before .before .before .before .before .before .before .before .before .before .before .before .before .before .before .before .before .before .before in
     let h = st .pre .0 in
     omega (arith, sum-fits (h .0 .passed) (st .args .action) (h .1) (c .before .before .before .before .before .before .before .before .before .before .before .before .before .before .before .before .before .before .before .before .before .before .drive .ensures) _ (c .before .before .before .before .before .before .before .before .before .before .before .before .before .judge .ensures) (c .before .before .before .before .before .before .before .drive2 .ensures))
 
@@ -59,7 +59,7 @@ same-length-3 c = c .before .before .before .before .before .before .before .dri
 returns : tie.Need-returns
 unfolding phaseOf view
 returns c =
-    let st = c .before .before .before .before .before .before .before .before .before .before .before .before .before .before .before .before .before .before .before .before .before .before .before .before .before .before .before .before .before .before .before .before in
+    let st = c .before .before .before .before .before .before .before .before .before .before .before .before .before .before .before .before .before .before .before .before .before .before .before .before .before .before .before .before .before .before in
     let h = st .pre .0 in
     turn-played (h .0 .passed) (st .args .action) (h .1) (c .before .before .before .before .before .before .before .before .before .before .before .before .before .before .before .before .before .before .before .before .before .before .drive .ensures) _ (c .before .before .before .before .before .before .before .before .before .before .before .before .before .judge .ensures) (c .before .before .before .before .before .before .before .drive2 .ensures) refl (st .pre .1)
 

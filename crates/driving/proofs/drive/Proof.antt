@@ -23,7 +23,7 @@ abbrev μ-loop : tie.MeasureT-loop
 -- src/drive.rt:63:5
 tell-requires : tie.Need-tell-requires Inv-loop μ-loop
 tell-requires c κs =
-    let st = c .before .before .before .before .before .before .before .before in
+    let st = c .before .before .before .before .before .before in
     let h = st .pre .0 in
     (h .states, h .works)
 
@@ -31,7 +31,7 @@ tell-requires c κs =
 loop-holds : tie.Need-loop-holds Inv-loop μ-loop
 loop-holds c =
     let c₁ = c .before .before .before .before in
-    let st = c₁ .before .before .before .before .before .before .before .before .before in
+    let st = c₁ .before .before .before .before .before .before .before in
     let w = c₁ .tell in
     ((refl, refl), root-first (st .args .policy .now) (w .ensures) (st .args .events .now) (st .args .place) (st .pre .1 .0))
 
@@ -40,7 +40,7 @@ advance-requires : tie.Need-advance-requires Inv-loop μ-loop
 advance-requires c κs =
     let c₁ = c .before .before in
     let c₂ = c₁ .before .before .before .before .before in
-    let st = c₂ .before .before .before .before .before .before .before .before .before in
+    let st = c₂ .before .before .before .before .before .before .before in
     let h = st .pre .0 in
     let w = c₂ .tell in
     let lw = w .kept .0 in
@@ -56,7 +56,7 @@ add-steps c =
     let c₁ = c .before .before .before .before .before in
     let c₂ = c₁ .before .before .before in
     let c₃ = c₂ .before .before .before .before .before in
-    let st = c₃ .before .before .before .before .before .before .before .before .before in
+    let st = c₃ .before .before .before .before .before .before .before in
     let w = c₃ .tell in
     let lp = c₂ .loop in
     let g = lp .inv .1 in
@@ -74,7 +74,7 @@ mul-i c =
     let c₁ = c .before in
     let c₂ = c₁ .before .before .before .before .before .before .before in
     let c₃ = c₂ .before .before .before in
-    let st = c₃ .before .before .before .before .before .before .before .before .before .before .before .before .before .before in
+    let st = c₃ .before .before .before .before .before .before .before .before .before .before .before .before in
     let lp = c₃ .loop in
     let g = lp .inv .1 in
     let a = c₂ .advance in
@@ -88,7 +88,7 @@ add-i c =
     let c₁ = c .before in
     let c₂ = c₁ .before .before .before .before .before .before .before in
     let c₃ = c₂ .before .before .before in
-    let st = c₃ .before .before .before .before .before .before .before .before .before .before .before .before .before .before in
+    let st = c₃ .before .before .before .before .before .before .before .before .before .before .before .before in
     let lp = c₃ .loop in
     let g = lp .inv .1 in
     let a = c₂ .advance in
@@ -115,7 +115,7 @@ add-events c =
     let c₁ = c .before in
     let c₂ = c₁ .before .before .before .before .before .before .before in
     let c₃ = c₂ .before .before .before in
-    let st = c₃ .before .before .before .before .before .before .before .before .before .before .before .before .before .before in
+    let st = c₃ .before .before .before .before .before .before .before .before .before .before .before .before in
     let lp = c₃ .loop in
     let g = lp .inv .1 in
     let a = c₂ .advance in
@@ -142,7 +142,7 @@ add-count c =
     let c₁ = c .before in
     let c₂ = c₁ .before .before .before .before .before .before .before in
     let c₃ = c₂ .before .before .before in
-    let st = c₃ .before .before .before .before .before .before .before .before .before .before .before .before .before .before in
+    let st = c₃ .before .before .before .before .before .before .before .before .before .before .before .before in
     let lp = c₃ .loop in
     let g = lp .inv .1 in
     let a = c₂ .advance in
@@ -220,7 +220,7 @@ returns c =
     let c₂ = c₁ .before .before .before .before .before .before .before in
     let c₃ = c₂ .before .before .before in
     let c₄ = c₃ .before .before .before .before .before in
-    let st = c₄ .before .before .before .before .before .before .before .before .before in
+    let st = c₄ .before .before .before .before .before .before .before in
     let w = c₄ .tell in
     let lp = c₃ .loop in
     let g = lp .inv .1 in

@@ -1,12 +1,8 @@
 -- `begin` meets its contract. Assumes nothing.
 use native.Mathlib.Omega.{arith}
-use mathlib.Core.Path.{sym, ap, _∙_, refl}
-use mathlib.Core.Bool.{not}
-use lib.Dec.{eqb}
+use mathlib.Core.Path.{sym, _∙_, refl}
 use borrow.Author.Tests.{not-true, not-false}
-use Rattle.policy.specs.Steps.{Step}
 use Rattle.memory.specs.Cells.{celled}
-use Rattle.leaves.specs.Leaf.{leaving}
 use Rattle.leaves.proofs.LeafStarts.{starts-late, starts-not, starts-after, starts-left, starts-to}
 use borrow.Author.Needs.{needs}
 use Rattle.leaves.proofs.begin.Statement.{statement}
@@ -33,9 +29,9 @@ returns-3 c = record {
 
 returns-4 : tie.Need-returns-4
 unfolding celled
-returns-4 c = let st = c .before .before .before .before .before .before .before .before .before .before in record {
-  starts = λ i k. starts-to _ _ _ _ _ (c .leaving .ensures ∙ ap (λ (s : Step). leaving (not (eqb (st .args .cell .phase) 0)) s) (c .before .before .step-of .ensures))
-      (starts-left i _ k _ _ _ _ refl (c .before .before .before .before .before .before .before .if1 .left) (sym (c .before .before .before .before .before .before .is-asked .ensures _ _) ∙ not-false _ (c .before .before .before .before .before .if2 .left)) (c .before .before .before .if3 .left));
+returns-4 c = record {
+  starts = λ i k. starts-to _ _ _ _ _ (c .leaving .ensures)
+      (starts-left i _ k _ _ _ _ refl (c .before .before .before .before .before .before .if1 .left) (sym (c .before .before .before .before .before .is-asked .ensures _ _) ∙ not-false _ (c .before .before .before .before .if2 .left)) (c .before .before .if3 .left));
   few = omega arith;
 }
 
@@ -47,6 +43,5 @@ begin-spec =
     (λ c κs. search needs)
     returns-2
     returns-3
-    (λ c κs. search needs)
     (λ c κs. search needs)
     returns-4)

@@ -39,16 +39,16 @@ module _ (s : tie.Start) where
 
 same-length : tie.Need-same-length
 same-length c =
-    c .before .before .before .before .before .before .before .before .before .before .before .lead-in3 .kept .1 .1 .1 .1 .0 ∙ c .before .before .before .before .before .before .before .before .before .before .before .before .before .before .before .lead-in2 .kept .1 .1 .1 .1 .0 ∙ c .before .before .before .before .before .before .before .before .before .before .before .before .before .before .before .before .before .before .before .lead-in .kept .1 .1 .1 .1 .0
+    c .before .before .before .before .before .before .before .before .before .before .lead-in3 .kept .1 .1 .1 .1 .0 ∙ c .before .before .before .before .before .before .before .before .before .before .before .before .before .before .lead-in2 .kept .1 .1 .1 .1 .0 ∙ c .before .before .before .before .before .before .before .before .before .before .before .before .before .before .before .before .before .before .lead-in .kept .1 .1 .1 .1 .0
 
 returns : tie.Need-returns
 unfolding fitsIn
 returns c =
-    let s = c .before .before .before .before .before .before .before .before .before .before .before .before .before .before .before .before .before .before .before .before .before .before .before in
+    let s = c .before .before .before .before .before .before .before .before .before .before .before .before .before .before .before .before .before .before .before .before .before .before in
     let x = c .before .before .before .before .stands .ensures in let y = c .before .before .stands2 .ensures in let z = c .stands3 .ensures in (
       (λ j. ((eqb (i s + p s + q s) 1 && (eqb (i s) 0 || x j)) && (eqb (p s) 0 || y j)) && (eqb (q s) 0 || z j)),
       lead-three _ _ _ _ (ledIn s (s .args .idle) (i s)) (ledIn s (s .args .pending) (p s)) (ledIn s (s .args .closing) (q s))
-          (c .before .before .before .before .before .before .before .before .before .before .before .before .before .before .before .before .before .before .before .lead-in .ensures) (c .before .before .before .before .before .before .before .before .before .before .before .before .before .before .before .lead-in2 .ensures) (c .before .before .before .before .before .before .before .before .before .before .before .lead-in3 .ensures),
+          (c .before .before .before .before .before .before .before .before .before .before .before .before .before .before .before .before .before .before .lead-in .ensures) (c .before .before .before .before .before .before .before .before .before .before .before .before .before .before .lead-in2 .ensures) (c .before .before .before .before .before .before .before .before .before .before .lead-in3 .ensures),
     )
 
 pub lead-by-spec : {M : Type 1} → statement M
@@ -58,9 +58,6 @@ lead-by-spec =
     lead-in-requires
     lead-in-requires-2
     lead-in-requires-3
-    (λ c. omega arith)
-    (λ c. omega arith)
-    (λ c. omega arith)
     (λ c. omega arith)
     (λ c. omega arith)
     (λ c κs. tt)

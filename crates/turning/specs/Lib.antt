@@ -1,0 +1,2 @@
+-- A round of a node's turn. Assumes nothing.
+pub mod Rounds
