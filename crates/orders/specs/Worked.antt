@@ -1,4 +1,4 @@
--- Small cases of what the third demand speaks of: which policies keep its premise, and what a leaf inserts. Assumes nothing.
+-- Small cases of what the third demand speaks of: which policies keep its premise, what a leaf inserts, and which item is the verdict. Assumes nothing.
 use Prim.Native.Nat.{ℕ}
 use mathlib.Core.Path.{_≡_}
 use mathlib.Core.Bool.{Bool, true, false}
@@ -8,11 +8,11 @@ use Rattle.actions.specs.Sets.{Action}
 use Rattle.policy.specs.Bytes.{Bytes}
 use Rattle.policy.specs.Parts.{alone, pair, pairOf, fileOf, top, bottom, L, «V», V′, W, F, built}
 use Rattle.policy.specs.Tree.{Tree, tree}
-use Rattle.turns.specs.Process.{trace, items}
+use Rattle.turns.specs.Process.{Item, accepts, suppresses, trace, items}
 use Rattle.turns.specs.Turn.{Request, offer, close, call}
 use Rattle.turns.specs.Saved.{stateSize, load}
 use Rattle.turns.specs.Entries.{eventRoom, opens}
-use Rattle.orders.specs.Orders.{insertsOf}
+use Rattle.orders.specs.Orders.{only, isVerdict, insertsOf}
 use Rattle.orders.specs.Demand.{premise}
 
 pub record Case : Type 0 where
@@ -42,18 +42,18 @@ premises =
     ∷ record { policy = fileOf (pairOf 5 1 2 ∷ top ∷ pairOf 7 3 6 ∷ pairOf 4 4 5 ∷ top ∷ top ∷ top ∷ []); keeps = false }
     ∷ []
 
--- what a call after opening lets a leaf insert
+-- what a call after opening does
+unfoldable pub doneBy : Bytes → Request → List Item
+doneBy policy q =
+    let t : Tree = tree policy in
+    let s : Bytes = opens policy (replicate stateSize 0) (replicate eventRoom 0) .state in
+    items (trace (call t q (load t s)))
+
 pub record Inserts : Type 0 where
   pub policy : Bytes
   pub request : Request
   pub leaf : ℕ
   pub inserts : List Action
-
-unfoldable pub insertsIn : Inserts → List Action
-insertsIn x =
-    let t : Tree = tree (x .policy) in
-    let s : Bytes = opens (x .policy) (replicate stateSize 0) (replicate eventRoom 0) .state in
-    insertsOf t (x .leaf) (items (trace (call t (x .request) (load t s))))
 
 -- an ins that runs, one of the other leaf, and one that the right side of a sequential node swallows: it was made all the same
 unfoldable pub inserting : List Inserts
@@ -69,7 +69,22 @@ inserting =
     ∷ record { policy = pair 5 «V» W; request = offer 4; leaf = 2; inserts = [] }
     ∷ []
 
+-- the verdict among what a call does
+pub record Judged : Type 0 where
+  pub policy : Bytes
+  pub request : Request
+  pub verdicts : List Item
+
+unfoldable pub judging : List Judged
+unfolding built
+judging =
+    record { policy = alone L; request = offer 2; verdicts = accepts 2 ∷ [] }
+    ∷ record { policy = alone «V»; request = offer 4; verdicts = suppresses 4 ∷ [] }
+    ∷ record { policy = alone «V»; request = close; verdicts = [] }
+    ∷ []
+
 unfoldable pub AllWorked : Type 0
 AllWorked =
     (map (λ x. premise (tree (x .policy))) premises ≡ map (λ x. x .keeps) premises)
-    × (map insertsIn inserting ≡ map (λ x. x .inserts) inserting)
+    × (map (λ x. insertsOf (tree (x .policy)) (x .leaf) (doneBy (x .policy) (x .request))) inserting ≡ map (λ x. x .inserts) inserting)
+    × (map (λ x. only isVerdict (doneBy (x .policy) (x .request))) judging ≡ map (λ x. x .verdicts) judging)
