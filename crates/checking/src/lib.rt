@@ -16,7 +16,6 @@ use records::broken2;
 use records::broken3;
 use records::broken4;
 use sets::broken9;
-use sets::sets;
 use spreads::broken10;
 use surveying::all_owned;
 use surveying::walk_leaves;
@@ -37,17 +36,15 @@ pub fn number(checked: Checked) -> u8
     }
 }
 
-// Rules 9 and 10, and the answer. What the leaves' walks have found is in `leaves` and `inserts`.
-fn check_tree(policy: &[u8], n: usize, m: usize, leaves: &[u64], inserts: &[u32]) -> Checked
+// Rules 9 and 10, and the answer. What the leaves' walks have found is in `effects` and `inserts`.
+fn check_tree(policy: &[u8], n: usize, m: usize, effects: &mut [u64], inserts: &[u32]) -> Checked
     requires { ⌜ LeavesKept (now policy) n m ⌝ }
-    requires { ⌜ Held leafEffects (now policy) n (now leaves) ⌝ }
+    requires { ⌜ Held leafEffects (now policy) n (now effects) ⌝ }
     requires { ⌜ Held insertsIn (now policy) n (now inserts) ⌝ }
     ensures { λ r. ⌜ answered r ≡ check (now (policy .entry)) ⌝ }
 {
     let mut regulated = [0u64; 31];
-    let mut effects = [0u64; 31];
-    sets(policy, n, m, leaves, &mut regulated, &mut effects);
-    if broken9(policy, n, m, &regulated, &effects) {
+    if broken9(policy, n, m, &mut regulated, effects) {
         return Checked::Refused(9);
     }
     if broken10(policy, n, m, inserts) {
@@ -73,13 +70,13 @@ fn check_records(policy: &[u8], n: usize, m: usize) -> Checked
     if !all_owned(policy, n, m) {
         return Checked::Refused(6);
     }
-    let mut leaves = [0u64; 31];
+    let mut effects = [0u64; 31];
     let mut inserts = [0u32; 31];
-    let rule = walk_leaves(policy, n, m, &mut leaves, &mut inserts);
+    let rule = walk_leaves(policy, n, m, &mut effects, &mut inserts);
     if rule != 0 {
         return Checked::Refused(rule);
     }
-    check_tree(policy, n, m, &leaves, &inserts)
+    check_tree(policy, n, m, &mut effects, &inserts)
 }
 
 pub fn check(policy: &[u8]) -> Checked

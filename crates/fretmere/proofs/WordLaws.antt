@@ -1,7 +1,7 @@
 -- An answer and the word that stands for it. Assumes nothing.
 use Prim.Native.Nat.{ℕ, _+_, _*_}
 use native.Mathlib.Omega.{arith}
-use mathlib.Core.Path.{_≡_, refl, sym, subst}
+use mathlib.Core.Path.{_≡_, refl, sym, ap, subst}
 use Rattle.policy.specs.Bytes.{Bytes}
 use Rattle.rules.specs.Check.{Answer as Checked, passes, refused}
 use Rattle.turns.specs.Status.{statusNumber}

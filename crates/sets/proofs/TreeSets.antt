@@ -12,6 +12,7 @@ use types.Run.{OneOf, miss}
 use denote.Enum.Declared.{tagOf}
 use Rattle.actions.specs.Sets.{ActionSet, EMPTY, union, meets}
 use Rattle.policy.specs.Bytes.{Bytes}
+use Rattle.policy.specs.Steps.{Step}
 use Rattle.policy.specs.Records.{mostNodes, Node, nodeAt, nodePlace, nodeCount}
 use Rattle.policy.specs.Tree.{Way, parallel, sequential, nodeKind, Place, places, Tree, leaf, node, tree, regulated}
 use Rattle.rules.specs.Interference.{leafEffects, effects, interfere, apart, broken9}
@@ -72,6 +73,18 @@ module _ {A : Type 0} {f : ℕ → A} {none : A} where
           let z : k ≡ i → ⊥ = eqb-false k i e in
           getD-set-other xs i k v none z ∙ s .at k (omega arith) b
 
+module _ {f : ActionSet → List Step → ℕ} {file : Bytes} where
+  -- the leaves before node i, by another name of i
+  pub held-as : {i j : ℕ} {xs : List ℕ} → i ≡ j → Held f file i xs → Held f file j xs
+  held-as {xs = xs} e s = subst (λ (k : ℕ). Held f file k xs) e s
+
+  -- node i's entry is written: those before it have what they had
+  pub held-less : {i : ℕ} {xs : List ℕ} (v : ℕ) → Held f file (i + 1) xs → Held f file i (set xs i v)
+  held-less {i} {xs} v s = record {
+    room = simp length-set (s .room);
+    at = λ k h e. getD-set-other xs i k v 0 (λ z. omega arith) ∙ s .at k (omega arith) e;
+  }
+
 -- ---- a node by its kind
 
 -- node i of n, whose record begins at `place`, and of which the code has read the kind q
@@ -114,9 +127,9 @@ module _ {file : Bytes} {n m i place : ℕ} {q : Kind} (d : Read file n m i plac
     leaf-regulated e = e ∙ ap (λ (y : Node). y .set) (sym node-here) ∙ ap regulated leaf-tree
 
     -- as the walk through the leaf has found it
-    pub leaf-affects : {held : List ActionSet} → Held leafEffects file n held → getD held i 0 ≡ effects (treeAt file i)
+    pub leaf-affects : {held : List ActionSet} → Held leafEffects file (i + 1) held → getD held i 0 ≡ effects (treeAt file i)
     unfolding effects kindOf
-    leaf-affects h = h .at i (d .below) (kind-here ∙ ap kindOf told) ∙ ap effects leaf-tree
+    leaf-affects h = h .at i (omega arith) (kind-here ∙ ap kindOf told) ∙ ap effects leaf-tree
 
   module _ {w : ReadWay} {j : Join} (told : q ≡ Pair w j) {l r : ℕ} (el : l ≡ x .left) (er : r ≡ x .right) where
     pub sides : (i < l) × (l < n) × (i < r) × (r < n)
@@ -151,7 +164,7 @@ module _ {file : Bytes} {n m i place : ℕ} {q : Kind} (d : Read file n m i plac
     apart-node sequential a b = refl
 
     -- c is whether the sides interfere
-    pub pair-apart : {regs effs : List ActionSet} {flags : List Bool} → RegulatedFrom file 0 n regs → EffectsFrom file 0 n effs → ApartFrom file (i + 1) n flags
+    pub pair-apart : {regs effs : List ActionSet} {flags : List Bool} → RegulatedFrom file (i + 1) n regs → EffectsFrom file (i + 1) n effs → ApartFrom file (i + 1) n flags
         → (c : Bool) → c ≡ (isParallel (wayOf w) && clash regs effs l r) → (not c && getD flags l false && getD flags r false) ≡ apart (treeAt file i)
     unfolding interfere clash
     pair-apart {flags = flags} a b held c ec =

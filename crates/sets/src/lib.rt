@@ -1,4 +1,4 @@
-// The regulated set and the effect set of each node's tree, from the last node to the first, and rule 9 by them.
+// The regulated set and the effect set of each node's tree, from the last node to the first, and rule 9 by them in the same pass.
 ghost use mathlib.Core.Path.{_≡_};
 ghost use mathlib.Core.Bool.{_&&_};
 ghost use Prim.Native.Nat.{_+_, _<_};
@@ -34,19 +34,12 @@ fn union_at(sets: &[u64], left: usize, right: usize) -> ActionSet
     a.union(b)
 }
 
-// The sets of node i. The walk through a leaf has found its effect set; the children of a pair come after it, and have their sets.
-fn node_sets(
-    policy: &[u8],
-    n: usize,
-    m: usize,
-    i: usize,
-    leaves: &[u64],
-    regs: &[u64],
-    effs: &[u64],
-) -> NodeSets
+// The sets of node i. The walk through a leaf has found its effect set, which its entry holds; the children of a pair come after it, and
+// have their sets.
+fn node_sets(policy: &[u8], n: usize, m: usize, i: usize, regs: &[u64], effs: &[u64]) -> NodeSets
     requires { ⌜ Treed (now policy) n m ⌝ }
     requires { ⌜ i < n ⌝ }
-    requires { ⌜ Held leafEffects (now policy) n (now leaves) ⌝ }
+    requires { ⌜ Held leafEffects (now policy) (i + 1) (now effs) ⌝ }
     requires { ⌜ RegulatedFrom (now policy) (i + 1) n (now regs) ⌝ }
     requires { ⌜ EffectsFrom (now policy) (i + 1) n (now effs) ⌝ }
     ensures { λ r. ⌜ r .regulated .bits ≡ regulated (treeAt (now (policy .entry)) i) ⌝ }
@@ -58,7 +51,7 @@ fn node_sets(
         Kind::Leaf => {
             NodeSets {
                 regulated: node_set(policy, place),
-                effects: ActionSet { bits: leaves[i] },
+                effects: ActionSet { bits: effs[i] },
             }
         }
         Kind::Pair(_, _) => {
@@ -73,29 +66,6 @@ fn node_sets(
             regulated: ActionSet::EMPTY,
             effects: ActionSet::EMPTY,
         },
-    }
-}
-
-pub fn sets(
-    policy: &[u8],
-    n: usize,
-    m: usize,
-    leaves: &[u64],
-    regulated: &mut [u64],
-    effects: &mut [u64],
-)
-    requires { ⌜ Treed (now policy) n m ⌝ }
-    requires { ⌜ Held leafEffects (now policy) n (now leaves) ⌝ }
-    requires { ⌜ (length (now regulated) ≡ mostNodes) × (length (now effects) ≡ mostNodes) ⌝ }
-    ensures { λ r. ⌜ RegulatedFrom (now (policy .entry)) 0 n (now (regulated .exit)) ⌝ }
-    ensures { λ r. ⌜ EffectsFrom (now (policy .entry)) 0 n (now (effects .exit)) ⌝ }
-{
-    let mut i = n;
-    while i > 0 {
-        i -= 1;
-        let found = node_sets(policy, n, m, i, leaves, regulated, effects);
-        regulated[i] = found.regulated.bits;
-        effects[i] = found.effects.bits;
     }
 }
 
@@ -135,8 +105,8 @@ fn node_apart(
 ) -> bool
     requires { ⌜ Treed (now policy) n m ⌝ }
     requires { ⌜ i < n ⌝ }
-    requires { ⌜ RegulatedFrom (now policy) 0 n (now regulated) ⌝ }
-    requires { ⌜ EffectsFrom (now policy) 0 n (now effects) ⌝ }
+    requires { ⌜ RegulatedFrom (now policy) (i + 1) n (now regulated) ⌝ }
+    requires { ⌜ EffectsFrom (now policy) (i + 1) n (now effects) ⌝ }
     requires { ⌜ ApartFrom (now policy) (i + 1) n (now flags) ⌝ }
     ensures { λ r. ⌜ r ≡ apart (treeAt (now (policy .entry)) i) ⌝ }
 {
@@ -155,17 +125,31 @@ fn node_apart(
     }
 }
 
-pub fn broken9(policy: &[u8], n: usize, m: usize, regulated: &[u64], effects: &[u64]) -> bool
+// Whether rule 9 is broken, from the last node to the first. Before, each leaf's entry in `effects` has its effect set; after, every node's
+// entries have its two sets.
+pub fn broken9(
+    policy: &[u8],
+    n: usize,
+    m: usize,
+    regulated: &mut [u64],
+    effects: &mut [u64],
+) -> bool
     requires { ⌜ Treed (now policy) n m ⌝ }
-    requires { ⌜ RegulatedFrom (now policy) 0 n (now regulated) ⌝ }
-    requires { ⌜ EffectsFrom (now policy) 0 n (now effects) ⌝ }
+    requires { ⌜ Held leafEffects (now policy) n (now effects) ⌝ }
+    requires { ⌜ length (now regulated) ≡ mostNodes ⌝ }
     ensures { λ r. ⌜ r ≡ broken9 (now (policy .entry)) ⌝ }
+    ensures { λ r. ⌜ RegulatedFrom (now (policy .entry)) 0 n (now (regulated .exit)) ⌝ }
+    ensures { λ r. ⌜ EffectsFrom (now (policy .entry)) 0 n (now (effects .exit)) ⌝ }
 {
     let mut flags = [true; 31];
     let mut i = n;
     while i > 0 {
         i -= 1;
-        flags[i] = node_apart(policy, n, m, i, regulated, effects, &flags);
+        let apart = node_apart(policy, n, m, i, regulated, effects, &flags);
+        let found = node_sets(policy, n, m, i, regulated, effects);
+        regulated[i] = found.regulated.bits;
+        effects[i] = found.effects.bits;
+        flags[i] = apart;
     }
     !flags[0]
 }

@@ -10,7 +10,7 @@ use lib.Seq.{take-all, drop-cons, drop-drop, length-take-le}
 use borrow.Author.Tests.{le-ltb}
 use Rattle.actions.specs.Sets.{ActionSet}
 use Rattle.actions.proofs.Tests.{not-not, or-false-right}
-use Rattle.policy.specs.Bytes.{Bytes, spelt, number, spell, put}
+use Rattle.policy.specs.Bytes.{Bytes, spelt, number, spell}
 use Rattle.policy.specs.Records.{nodeSize, stepSize, lengthField, versionField, nodeCount, stepCount, nodePlace, rowPlace}
 use Rattle.policy.specs.Parts.{file}
 use Rattle.policy.proofs.ByteLaws.{Small, small-take, small-drop, spell-spelt}
@@ -20,8 +20,9 @@ use Rattle.rules.specs.Passed.{Passed}
 use Rattle.rules.specs.Check.{Answer, passes, check}
 use Rattle.rules.proofs.Rows.{CountsFit, counts-fit}
 use Rattle.rules.proofs.Passed.{passed}
-use Rattle.writing.specs.Writing.{holds, written, wrote, laid, after, writes}
+use Rattle.writing.specs.Writing.{holds, written, laid, after}
 use Rattle.writing.specs.Lent.{nodeBytes, stepBytes, Lent}
+use Rattle.writing.specs.Promises.{WrittenAgain}
 use Rattle.writing.proofs.Files.{holds-is, by-check}
 use Rattle.writing.proofs.ReadBack.{node-bytes-length, step-bytes-length}
 
@@ -86,13 +87,11 @@ module _ (made : Bytes) (small : Small made) where
       few-steps = omega (arith, steps-held, c .few-steps);
     }
 
-pub writes-again : (made : Bytes) → Small made → (r e : ActionSet) → check made ≡ passes r e → (out : Bytes) → length made ≤ length out
-    → writes (nodeBytes made) (stepBytes made) out ≡ record { reply = wrote (length made); out = put out 0 made }
+pub writes-again : (made : Bytes) → Small made → (r e : ActionSet) → check made ≡ passes r e → WrittenAgain made
 unfolding after laid
 writes-again made small r e h out room =
     let ok = passed made r e h in
-    let w = written-again made small ok in
     by-check (nodeBytes made) (stepBytes made) out (own-lent made small ok)
-    ∙ ap (λ (f : Bytes). after (check f) f out) w
+    ∙ ap (λ (f : Bytes). after (check f) f out) (written-again made small ok)
     ∙ ap (λ (a : Answer). after a made out) h
     ∙ rw (le-ltb (length out) (length made) room, laid)

@@ -60,9 +60,6 @@ module _ (nodes steps : Bytes) where
   -- ---- buffers fit to be lent
 
   module _ (l : Lent nodes steps) where
-    pub short : length (written nodes steps) ≤ 6646
-    short = omega (arith, written-length)
-
     pub step-count-lent : stepCount (written nodes steps) ≡ holds stepSize steps
     step-count-lent = step-count ∙ omega arith
 

@@ -4,12 +4,12 @@ use mathlib.Core.Path.{_≡_}
 use mathlib.Core.Bool.{false}
 use lib.ListN.{length, take, drop}
 use Rattle.actions.specs.Sets.{ActionSet}
-use Rattle.policy.specs.Bytes.{Bytes}
+use Rattle.policy.specs.Bytes.{Bytes, put}
 use Rattle.policy.specs.Records.{nodes, rows}
 use Rattle.policy.specs.Tree.{regulated, tree}
 use Rattle.rules.specs.Interference.{effects}
 use Rattle.rules.specs.Check.{passes, refused, check}
-use Rattle.writing.specs.Writing.{written, Result}
+use Rattle.writing.specs.Writing.{written, wrote, Result, writes}
 use Rattle.writing.specs.Lent.{nodesLent, rowsLent, nodeBytes, stepBytes, lendable, Lent}
 
 -- "Whatever it writes is read back by the check as the same records": the first n bytes of the output. "Output bytes after the file
@@ -23,6 +23,10 @@ pub record ReadBack (lentNodes lentSteps out : Bytes) (n : ℕ) (x : Result) : T
   pub same-steps : rows (take n (x .out)) ≡ rowsLent lentSteps
   pub node-bytes : nodeBytes (take n (x .out)) ≡ lentNodes
   pub step-bytes : stepBytes (take n (x .out)) ≡ lentSteps
+
+-- "every file that the check passes is written again byte for byte from its own records", over any output with room for it
+abbrev pub WrittenAgain : Bytes → Type 0
+WrittenAgain made = (out : Bytes) → length made ≤ length out → writes (nodeBytes made) (stepBytes made) out ≡ record { reply = wrote (length made); out = put out 0 made }
 
 -- Why k was given: "the check's from 3 on (3 for a broken record too), and 15 when the lent output is shorter than the file, tried last".
 -- 3 is given for what is lent alone, since the writer makes the length and the counts itself.

@@ -58,4 +58,4 @@ check-records-spec =
     (λ c. search needs)
     (λ c. search needs)
     check-tree-requires
-    (λ c. c .check-tree .ensures))
+    (λ c. c .before .check-tree .ensures))

@@ -12,7 +12,7 @@ use Rattle.sets.proofs.node_sets.Statement.{statement}
 use Rattle.sets.proofs.node_sets.Tie as tie
 
 abbrev start : tie.After-node-place → tie.Start
-start c = c .before .before .before .before .before
+start c = c .before .before .before .before
 
 inside : (c : tie.After-node-place) → c .node-place .result + nodeSize ≤ length (start c .args .policy .now)
 inside c = omega (arith, c .node-place .ensures, node-inside (start c .pre .0 .frame) (start c .args .i) (start c .pre .1 .0))
@@ -26,8 +26,8 @@ read c =
 
 -- ---- a leaf
 
-shared-slice-read-t16 : tie.Need-shared-slice-read-t16
-shared-slice-read-t16 c =
+shared-slice-read-t15 : tie.Need-shared-slice-read-t15
+shared-slice-read-t15 c =
     let h = start (c .before .before .before .before .before) .pre in
     let f = h .0 .frame in
     omega (arith, h .1 .0, h .1 .1 .0 .room)
@@ -80,7 +80,7 @@ node-sets-spec =
     (λ c. search needs)
     (λ c κs. inside (c .before .before .before))
     (λ c. search needs)
-    shared-slice-read-t16
+    shared-slice-read-t15
     (λ c. search needs)
     (λ c κs. inside (c .before .before .before))
     (λ c. search needs)
