@@ -110,13 +110,13 @@ row-ins (suc (suc (suc (suc (suc (suc (suc (suc zero)))))))) a f s o h = tt
 row-ins (suc (suc (suc (suc (suc (suc (suc (suc (suc k))))))))) a f s o h = tt
 
 module _ (file : Bytes) (four : broken4 file ≡ false) where
-  nodes-fit : T (every (λ x. nodeFits (nodeKind (x .kind)) x) (nodes file))
+  pub nodes-fit : T (every (λ x. nodeFits (nodeKind (x .kind)) x) (nodes file))
   unfolding broken4
   nodes-fit =
       not-not (every (λ x. nodeFits (nodeKind (x .kind)) x) (nodes file))
       (or-false-left (not (every (λ x. nodeFits (nodeKind (x .kind)) x) (nodes file))) (not (every rowFits (rows file))) four)
 
-  rows-fit : T (every rowFits (rows file))
+  pub rows-fit : T (every rowFits (rows file))
   unfolding broken4
   rows-fit =
       not-not (every rowFits (rows file))
@@ -159,7 +159,7 @@ leaf-fits x e h =
     )
 
 module _ (file : Bytes) (four : broken4 file ≡ false) (six : broken6 file ≡ false) where
-  all-owned : summed (map owned (nodes file)) ≡ stepCount file
+  pub all-owned : summed (map owned (nodes file)) ≡ stepCount file
   unfolding broken6
   all-owned =
       eqb→eq (summed (map owned (nodes file))) (stepCount file) (not-not (eqb (summed (map owned (nodes file))) (stepCount file))

@@ -1,0 +1,3 @@
+pub mod ScanLaws
+pub mod NumberLaws
+pub mod TakenLaws

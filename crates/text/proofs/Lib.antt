@@ -1,0 +1,9 @@
+pub mod WordLaws
+pub mod NumeralLaws
+pub mod MemberLaws
+pub mod LineLaws
+pub mod TableLaws
+pub mod TextLaws
+pub mod WholeLaws
+pub mod Printable
+pub mod Examples

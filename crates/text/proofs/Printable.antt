@@ -1,0 +1,311 @@
+-- Every file that the check passes has a text, from which its records are read back. Assumes nothing.
+use Prim.Native.Nat.{ℕ, zero, suc, _+_, _*_, _/_, _^_, _≤_, _<_}
+use native.Mathlib.Nat.{mul-add}
+use native.Mathlib.Omega.{arith}
+use mathlib.Core.Path.{_≡_, refl, ap, ap₂, _∙_, sym, subst, subst₂}
+use mathlib.Core.Bool.{Bool, _&&_, not}
+use mathlib.Core.List.{[], _∷_, _++_, map}
+use lib.Dec.{T, eqb, leb, ltb, eqb→eq, le→leb}
+use lib.ListN.{length, getD, take, drop, length-drop, take-append-drop, drop-of-length-le}
+use lib.Seq.{drop-drop, length-take-le, drop-cons, take-all}
+use Rattle.actions.specs.Sets.{ActionSet}
+use Rattle.actions.proofs.Tests.{yes-of, and-intro, and-left, not-not, or-false-right}
+use Rattle.policy.specs.Bytes.{Bytes, spelt, number, spell}
+use Rattle.policy.specs.Lists.{summed, every, listed}
+use Rattle.policy.specs.Records.{Node, Row, frontSize, nodeAt, rowAt, nodePlace, rowPlace, lengthField, versionField, nodeCount, stepCount, nodes, rows}
+use Rattle.policy.specs.Tree.{NodeKind, aLeaf, aTrivial, anUnsatisfiable, aPair, noNode, nodeKind, owned}
+use Rattle.policy.specs.Parts
+use Rattle.policy.proofs.ByteLaws.{Small, small-take, small-drop, spelt-less, spell-spelt, part-part, number-part}
+use Rattle.policy.proofs.NumberLaws.{number-byte}
+use Rattle.policy.proofs.ListLaws.{listed-length, listed-at, every-at}
+use Rattle.rules.specs.Layout.{nodeFits, rowFits, broken1, broken2}
+use Rattle.rules.specs.Check.{passes, check}
+use Rattle.rules.specs.Passed.{Passed}
+use Rattle.rules.proofs.Passed.{passed}
+use Rattle.rules.proofs.Rows.{CountsFit, counts-fit, nodes-fit, rows-fit, all-owned}
+use Rattle.text.specs.Words.{sameBytes, newline}
+use Rattle.text.specs.Forms.{Sort, node, step, size, fieldsIn, recordOf, place, bound, Form, bare}
+use Rattle.text.specs.Printing.{Print, text, both, lineText, said, countIn, says, printedIf, recordText, stepsText, nodesText, printed}
+use Rattle.text.specs.Files.{nodesIn, stepsIn, fileOf, ThereAndBack}
+use Rattle.text.proofs.WordLaws.{same-refl}
+use Rattle.text.proofs.TextLaws.{read-text}
+use Rattle.text.proofs.WholeLaws.{zero-3, zero-4, Told, node-told, row-told}
+
+-- ---- a record
+
+abbrev HasText : Print → Type 0
+HasText p = (t : Bytes) × (p ≡ text t)
+
+-- a record that its fields make up, and that a form says whole
+record-has : (s : Sort) (i : ℕ) (bs : Bytes) → recordOf s (countIn s bs) (fieldsIn s bs) ≡ bs → Told s (getD bs 0 0) (countIn s bs) (fieldsIn s bs) → HasText (recordText s i bs)
+unfolding recordText printedIf says bare
+record-has s i bs e d =
+    let f : Form = d .form in
+    let x = recordOf s (countIn s bs) (said (f .slots) (fieldsIn s bs) (bare f)) in
+    let a : T (sameBytes x bs) = subst (λ (y : Bytes). T (sameBytes y bs)) (sym (d .whole .same ∙ e)) (same-refl bs) in
+    let b = every (λ p. leb (getD (fieldsIn s bs) (place p) 0) (bound p)) (f .slots) in
+    let w : T (says s f bs) =
+    and-intro (sameBytes x bs && b) (leb (countIn s bs) (f .room)) (and-intro (sameBytes x bs) b a (d .whole .fits)) (le→leb (countIn s bs) (f .room) (d .whole .few)) in
+    (lineText s f (fieldsIn s bs) i ++ (newline ∷ []), rw (recordText, d .is, yes-of (says s f bs) w))
+
+module _ (bs : Bytes) (small : Small bs) where
+  -- a byte of it, and a number of more bytes
+  byte-bound : (i : ℕ) → i < length bs → number bs i 1 ≤ 255
+  byte-bound i h = omega (arith, number-byte bs i h, small i)
+
+  number-bound : (i k : ℕ) → i + k ≤ length bs → number bs i k < 256 ^ k
+  unfolding number
+  number-bound i k h =
+      let e : length (take k (drop i bs)) ≡ k = length-take-le k (drop i bs) (simp length-drop (omega arith)) in
+      subst (λ (n : ℕ). spelt 0 (take k (drop i bs)) < 256 ^ n) e (spelt-less (take k (drop i bs)) (small-take k (drop i bs) (small-drop i bs small)))
+
+  number-again : (i k : ℕ) → i + k ≤ length bs → spell k (number bs i k) ≡ take k (drop i bs)
+  unfolding number
+  number-again i k h =
+      let e : length (take k (drop i bs)) ≡ k = length-take-le k (drop i bs) (simp length-drop (omega arith)) in
+      subst (λ (n : ℕ). spell n (spelt 0 (take k (drop i bs))) ≡ take k (drop i bs)) e (spell-spelt 0 (take k (drop i bs)) (small-take k (drop i bs) (small-drop i bs small)))
+
+  -- the bytes from i on: a byte and the others, a number and the others, a number alone
+  byte-first : (i : ℕ) → i < length bs → number bs i 1 ∷ drop (suc i) bs ≡ drop i bs
+  byte-first i h = ap (λ (n : ℕ). n ∷ drop (suc i) bs) (number-byte bs i h) ∙ sym (drop-cons bs i 0 h)
+
+  number-first : (i k : ℕ) → i + k ≤ length bs → spell k (number bs i k) ++ drop (i + k) bs ≡ drop i bs
+  number-first i k h = ap₂ {C = Bytes} _++_ (number-again i k h) (sym (drop-drop k i bs)) ∙ take-append-drop k (drop i bs)
+
+  number-last : (i k : ℕ) → i + k ≡ length bs → spell k (number bs i k) ≡ drop i bs
+  number-last i k h = number-again i k (omega arith) ∙ take-all k (drop i bs) (simp length-drop (omega arith))
+
+  abbrev head : Bytes → Bytes
+  head l = number bs 0 1 ∷ number bs 1 1 ∷ number bs 2 1 ∷ number bs 3 1 ∷ l
+
+  four-first : 4 ≤ length bs → head (drop 4 bs) ≡ bs
+  four-first h =
+      ap (λ (l : Bytes). number bs 0 1 ∷ number bs 1 1 ∷ number bs 2 1 ∷ l) (byte-first 3 (omega arith))
+      ∙ ap (λ (l : Bytes). number bs 0 1 ∷ number bs 1 1 ∷ l) (byte-first 2 (omega arith))
+      ∙ ap (λ (l : Bytes). number bs 0 1 ∷ l) (byte-first 1 (omega arith))
+      ∙ byte-first 0 (omega arith)
+
+  node-again : length bs ≡ size node → recordOf node (countIn node bs) (fieldsIn node bs) ≡ bs
+  unfolding recordOf fieldsIn countIn nodeAt Parts.node size
+  node-again h =
+      ap head (ap (λ (l : Bytes). spell 4 (number bs 4 4) ++ l) (number-last 8 8 (omega arith)) ∙ number-first 4 4 (omega arith)) ∙ four-first (omega arith)
+
+  row-again : length bs ≡ size step → recordOf step 0 (fieldsIn step bs) ≡ bs
+  unfolding recordOf fieldsIn rowAt Parts.step size
+  row-again h = ap head (number-last 4 8 (omega arith)) ∙ four-first (omega arith)
+
+  node-has : (i : ℕ) → length bs ≡ size node → T (nodeFits (nodeKind (nodeAt bs 0 .kind)) (nodeAt bs 0)) → HasText (recordText node i bs)
+  unfolding fieldsIn countIn nodeAt size
+  node-has i h t =
+      record-has node i bs (node-again h)
+      (subst (λ (k : ℕ). Told node k (countIn node bs) (fieldsIn node bs)) (number-byte bs 0 (omega arith))
+      (node-told (number bs 0 1) (number bs 1 1) (number bs 2 1) (number bs 3 1) (number bs 4 4) (number bs 8 8)
+      (byte-bound 1 (omega arith)) (byte-bound 2 (omega arith)) (byte-bound 3 (omega arith)) (omega (arith, number-bound 4 4 (omega arith)))
+      (number-bound 8 8 (omega arith)) t))
+
+  row-has : (j : ℕ) → length bs ≡ size step → T (rowFits (rowAt bs 0)) → HasText (recordText step j bs)
+  unfolding fieldsIn countIn rowAt size
+  row-has j h t =
+      record-has step j bs (row-again h)
+      (subst (λ (k : ℕ). Told step k 0 (fieldsIn step bs)) (number-byte bs 0 (omega arith))
+      (row-told (number bs 0 1) (number bs 1 1) (number bs 2 1) (number bs 3 1) (number bs 4 8)
+      (byte-bound 1 (omega arith)) (byte-bound 2 (omega arith)) (byte-bound 3 (omega arith)) (number-bound 4 8 (omega arith)) t))
+
+-- ---- records in a row
+
+both-has : (p q : Print) → HasText p → HasText q → HasText (both p q)
+unfolding both
+both-has p q h k = (h .0 ++ k .0, rw (h .1, k .1))
+
+-- a node that keeps rule 4 owns as many steps as it counts
+owned-count : (x : Node) → T (nodeFits (nodeKind (x .kind)) x) → owned x ≡ x .count
+unfolding owned nodeFits
+owned-count x h = go (nodeKind (x .kind)) refl
+  where
+    lone : T (eqb (x .left) 0 && eqb (x .right) 0 && eqb (x .count) 0 && eqb (x .start) 0 && eqb (x .set) 0) → 0 ≡ x .count
+    lone t =
+        sym (zero-4 (x .left) (x .right) (x .count) (x .start)
+        (and-left (eqb (x .left) 0 && eqb (x .right) 0 && eqb (x .count) 0 && eqb (x .start) 0) (eqb (x .set) 0) t) .2)
+
+    go : (k : NodeKind) → nodeKind (x .kind) ≡ k → owned x ≡ x .count
+    go aLeaf e = rw (e, owned)
+    go aTrivial e = rw (e, owned) (lone (rw e at h))
+    go anUnsatisfiable e = rw (e, owned) (lone (rw e at h))
+    go noNode e = absurd (rw e at h)
+    go (aPair w j) e = rw (e, owned) (sym (zero-3 (x .count) (x .start) (x .set) (rw e at h) .0))
+
+every-listed : {A : Type 0} (g : A → Bool) (f : ℕ → A) (n : ℕ) → T (every g (listed f 0 n)) → (i : ℕ) → i < n → T (g (f i))
+every-listed {A} g f n t i h =
+    let z : 0 + i ≡ i = omega arith in
+    let l : i < length (listed f 0 n) = omega (arith, listed-length f 0 n) in
+    subst (λ (x : A). T (g x)) (listed-at f 0 n (f 0) i h ∙ ap f z) (every-at g (listed f 0 n) (f 0) t i l)
+
+-- k records further on
+further : (size k j : ℕ) (bs : Bytes) → drop (size * (j + k)) bs ≡ drop (size * k) (drop (size * j) bs)
+further size k j bs = ap (λ (n : ℕ). drop n bs) (mul-add size j k) ∙ sym (drop-drop (size * k) (size * j) bs)
+
+-- a record read where it is cut out, and where it lies
+module _ (bs : Bytes) (at : ℕ) where
+  node-cut : at + 16 ≤ length bs → nodeAt (take 16 (drop at bs)) 0 ≡ nodeAt bs at
+  unfolding nodeAt
+  node-cut h =
+      let z : number bs (at + 0) 1 ≡ number bs at 1 = ap (λ (n : ℕ). number bs n 1) (omega arith) in
+      let e₀ = number-part bs at 16 0 1 (omega arith) h ∙ z in
+      let e₁ = number-part bs at 16 1 1 (omega arith) h in
+      let e₂ = number-part bs at 16 2 1 (omega arith) h in
+      let e₃ = number-part bs at 16 3 1 (omega arith) h in
+      let e₄ = number-part bs at 16 4 4 (omega arith) h in
+      let e₅ = number-part bs at 16 8 8 (omega arith) h in
+      λ i. record { kind = e₀ i; left = e₁ i; right = e₂ i; count = e₃ i; start = e₄ i; set = e₅ i }
+
+  row-cut : at + 12 ≤ length bs → rowAt (take 12 (drop at bs)) 0 ≡ rowAt bs at
+  unfolding rowAt
+  row-cut h =
+      let z : number bs (at + 0) 1 ≡ number bs at 1 = ap (λ (n : ℕ). number bs n 1) (omega arith) in
+      let e₀ = number-part bs at 12 0 1 (omega arith) h ∙ z in
+      let e₁ = number-part bs at 12 1 1 (omega arith) h in
+      let e₂ = number-part bs at 12 2 1 (omega arith) h in
+      let e₃ = number-part bs at 12 3 1 (omega arith) h in
+      let e₄ = number-part bs at 12 4 8 (omega arith) h in
+      λ i. record { kind = e₀ i; action = e₁ i; first = e₂ i; second = e₃ i; operand = e₄ i }
+
+module _ (file : Bytes) (small : Small file) (ok : Passed file) where
+  counts : CountsFit file
+  counts = counts-fit file (ok .kept3)
+
+  nodes-length : length (nodesIn file) ≡ size node * nodeCount file
+  unfolding nodesIn size rowPlace nodePlace
+  nodes-length = length-take-le (16 * nodeCount file) (drop frontSize file) (simp length-drop (omega (arith, counts .long)))
+
+  steps-length : length (stepsIn file) ≡ size step * stepCount file
+  unfolding stepsIn size rowPlace nodePlace
+  steps-length = length-take-le (12 * stepCount file) (drop (nodePlace (nodeCount file)) file) (simp length-drop (omega (arith, counts .long)))
+
+  -- where a record lies among the records, and where in the file
+  node-lies : (i : ℕ) → i < nodeCount file → take (size node) (drop (size node * i) (nodesIn file)) ≡ take (size node) (drop (nodePlace i) file)
+  unfolding nodesIn size rowPlace nodePlace
+  node-lies i h = part-part file frontSize (16 * nodeCount file) (16 * i) 16 (omega arith) (omega (arith, counts .long))
+
+  row-lies : (j : ℕ) → j < stepCount file → take (size step) (drop (size step * j) (stepsIn file)) ≡ take (size step) (drop (rowPlace file j) file)
+  unfolding stepsIn size rowPlace nodePlace
+  row-lies j h = part-part file (nodePlace (nodeCount file)) (12 * stepCount file) (12 * j) 12 (omega arith) (omega (arith, counts .long))
+
+  node-inside : (i : ℕ) → i < nodeCount file → nodePlace i + 16 ≤ length file
+  unfolding rowPlace nodePlace
+  node-inside i h = omega (arith, counts .long)
+
+  row-inside : (j : ℕ) → j < stepCount file → rowPlace file j + 12 ≤ length file
+  unfolding rowPlace nodePlace
+  row-inside j h = omega (arith, counts .long)
+
+  -- rule 4, of each record
+  node-fits : (i : ℕ) → i < nodeCount file → T (nodeFits (nodeKind (nodeAt file (nodePlace i) .kind)) (nodeAt file (nodePlace i)))
+  unfolding nodes
+  node-fits i h = every-listed (λ x. nodeFits (nodeKind (x .kind)) x) (λ i. nodeAt file (nodePlace i)) (nodeCount file) (nodes-fit file (ok .kept4)) i h
+
+  row-fits : (j : ℕ) → j < stepCount file → T (rowFits (rowAt file (rowPlace file j)))
+  unfolding rows
+  row-fits j h = every-listed rowFits (λ j. rowAt file (rowPlace file j)) (stepCount file) (rows-fit file (ok .kept4)) j h
+
+  -- ---- each record has a line
+
+  module _ (i : ℕ) (h : i < nodeCount file) where
+    node-line : HasText (recordText node i (take (size node) (drop (size node * i) (nodesIn file))))
+    unfolding size
+    node-line =
+        let bs : Bytes = take 16 (drop (nodePlace i) file) in
+        subst (λ (x : Bytes). HasText (recordText node i x)) (sym (node-lies i h))
+        (node-has bs (small-take 16 (drop (nodePlace i) file) (small-drop (nodePlace i) file small)) i
+        (length-take-le 16 (drop (nodePlace i) file) (simp length-drop (omega (arith, node-inside i h))))
+        (subst (λ (x : Node). T (nodeFits (nodeKind (x .kind)) x)) (sym (node-cut file (nodePlace i) (node-inside i h))) (node-fits i h)))
+
+    node-count : countIn node (take (size node) (drop (size node * i) (nodesIn file))) ≡ owned (nodeAt file (nodePlace i))
+    unfolding size countIn
+    node-count =
+        ap (countIn node) (node-lies i h) ∙ ap (λ (x : Node). x .count) (node-cut file (nodePlace i) (node-inside i h))
+        ∙ sym (owned-count (nodeAt file (nodePlace i)) (node-fits i h))
+
+  row-line : (j o : ℕ) → j < stepCount file → HasText (recordText step o (take (size step) (drop (size step * j) (stepsIn file))))
+  unfolding size
+  row-line j o h =
+      let bs : Bytes = take 12 (drop (rowPlace file j) file) in
+      subst (λ (x : Bytes). HasText (recordText step o x)) (sym (row-lies j h))
+      (row-has bs (small-take 12 (drop (rowPlace file j) file) (small-drop (rowPlace file j) file small)) o
+      (length-take-le 12 (drop (rowPlace file j) file) (simp length-drop (omega (arith, row-inside j h))))
+      (subst (λ (x : Row). T (rowFits x)) (sym (row-cut file (rowPlace file j) (row-inside j h))) (row-fits j h)))
+
+  -- ---- and so have all
+
+  steps-have : (k j o : ℕ) → j + k ≤ stepCount file → HasText (stepsText k o (drop (size step * j) (stepsIn file)))
+  unfolding stepsText size
+  steps-have zero j o h = ([], refl)
+  steps-have (suc k) j o h =
+      let rest : Bytes = drop (size step) (drop (size step * j) (stepsIn file)) in
+      both-has (recordText step o (take (size step) (drop (size step * j) (stepsIn file)))) (stepsText k (suc o) rest) (row-line j o (omega arith))
+      (subst (λ (x : Bytes). HasText (stepsText k (suc o) x)) (further (size step) 1 j (stepsIn file)) (steps-have k (j + 1) (suc o) (omega arith)))
+
+  nodes-have : (n i j : ℕ) → i + n ≡ nodeCount file → j + summed (map owned (listed (λ i. nodeAt file (nodePlace i)) i n)) ≡ stepCount file
+      → HasText (nodesText n i (drop (size node * i) (nodesIn file)) (drop (size step * j) (stepsIn file)))
+  unfolding nodesText listed summed size
+  nodes-have zero i j h e =
+      let a : drop (16 * i) (nodesIn file) ≡ [] = drop-of-length-le (nodesIn file) {i = 16 * i} (omega (arith, nodes-length)) in
+      let b : drop (12 * j) (stepsIn file) ≡ [] = drop-of-length-le (stepsIn file) {i = 12 * j} (omega (arith, steps-length)) in
+      ([], ap₂ (nodesText zero i) a b)
+  nodes-have (suc n) i j h e =
+      let ns : Bytes = drop (16 * i) (nodesIn file) in
+      let ss : Bytes = drop (12 * j) (stepsIn file) in
+      let c : ℕ = countIn node (take 16 ns) in
+      let ec : c ≡ owned (nodeAt file (nodePlace i)) = node-count i (omega arith) in
+      let z : suc i ≡ i + 1 = omega arith in
+      let a : drop (16 * suc i) (nodesIn file) ≡ drop 16 ns = ap (λ (m : ℕ). drop (16 * m) (nodesIn file)) z ∙ further 16 1 i (nodesIn file) in
+      let b : drop (12 * (j + c)) (stepsIn file) ≡ drop (12 * c) ss = further 12 c j (stepsIn file) in
+      both-has (recordText node i (take 16 ns)) (both (stepsText c 0 ss) (nodesText n (suc i) (drop 16 ns) (drop (12 * c) ss))) (node-line i (omega arith))
+      (both-has (stepsText c 0 ss) (nodesText n (suc i) (drop 16 ns) (drop (12 * c) ss)) (steps-have c j 0 (omega arith))
+      (subst₂ (λ (x y : Bytes). HasText (nodesText n (suc i) x y)) a b (nodes-have n (suc i) (j + c) (omega arith) (omega arith))))
+
+  has-text : HasText (printed (nodesIn file) (stepsIn file))
+  unfolding printed size nodes
+  has-text =
+      let q : length (nodesIn file) / 16 ≡ nodeCount file = omega (arith, nodes-length) in
+      subst (λ (n : ℕ). HasText (nodesText n 0 (nodesIn file) (stepsIn file))) (sym q) (nodes-have (nodeCount file) 0 0 (omega arith) (omega (arith, all-owned file (ok .kept4) (ok .kept6))))
+
+  -- ---- the file again
+
+  length-kept : lengthField file ≡ length file
+  unfolding broken1
+  length-kept =
+      eqb→eq (lengthField file) (length file) (not-not (eqb (lengthField file) (length file))
+      (or-false-right (ltb (length file) frontSize) (not (eqb (lengthField file) (length file))) (ok .kept1)))
+
+  version-kept : versionField file ≡ 1
+  unfolding broken2
+  version-kept = eqb→eq (versionField file) 1 (not-not (eqb (versionField file) 1) (ok .kept2))
+
+  body-again : nodesIn file ++ stepsIn file ≡ drop frontSize file
+  unfolding nodesIn stepsIn size nodePlace rowPlace
+  body-again =
+      ap (λ (l : Bytes). take (16 * nodeCount file) (drop frontSize file) ++ l)
+      (take-all (12 * stepCount file) (drop (nodePlace (nodeCount file)) file) (simp length-drop (omega (arith, counts .long))) ∙ sym (drop-drop (16 * nodeCount file) frontSize file))
+      ∙ take-append-drop (16 * nodeCount file) (drop frontSize file)
+
+  file-again : fileOf (nodesIn file) (stepsIn file) ≡ file
+  unfolding fileOf size Parts.file lengthField versionField nodeCount stepCount rowPlace nodePlace
+  file-again =
+      let long : length file ≡ 6 + 16 * nodeCount file + 12 * stepCount file = counts .long in
+      let n : length (nodesIn file) / 16 ≡ nodeCount file = omega (arith, nodes-length) in
+      let m : length (stepsIn file) / 12 ≡ stepCount file = omega (arith, steps-length) in
+      let l : 6 + 16 * nodeCount file + 12 * stepCount file ≡ number file 0 2 = sym (length-kept ∙ long) in
+      ap₂ (λ (x y : ℕ). Parts.file x y (nodesIn file ++ stepsIn file)) n m
+      ∙ ap (Parts.file (nodeCount file) (stepCount file)) body-again
+      ∙ ap₂ (λ (x y : ℕ). spell 2 x ++ (y ∷ number file 3 1 ∷ (spell 2 (number file 4 2) ++ drop 6 file))) l (sym version-kept)
+      ∙ ap (λ (x : Bytes). spell 2 (number file 0 2) ++ (number file 2 1 ∷ number file 3 1 ∷ x)) (number-first file small 4 2 (omega arith))
+      ∙ ap (λ (x : Bytes). spell 2 (number file 0 2) ++ (number file 2 1 ∷ x)) (byte-first file small 3 (omega arith))
+      ∙ ap (λ (x : Bytes). spell 2 (number file 0 2) ++ x) (byte-first file small 2 (omega arith))
+      ∙ number-first file small 0 2 (omega arith)
+
+-- Every file that the check passes goes to text and back.
+pub read-printed : (file : Bytes) (r e : ActionSet) → Small file → check file ≡ passes r e → ThereAndBack file
+read-printed file r e small h =
+    let ok : Passed file = passed file r e h in
+    let p = has-text file small ok in
+    record { text = p .0; prints = p .1; reads = read-text (nodesIn file) (stepsIn file) (p .0) (p .1); files = file-again file small ok }
