@@ -1,17 +1,15 @@
 // The entry points: open, offer and close, on slices that the caller lends. The check is crate checking's.
 ghost use Rattle.turns.specs.Entries.{opens, offers, closes};
 ghost use Rattle.answering.specs.Replies.{Gave};
-use crate::refusals::halted;
-use crate::refusals::short;
-use crate::refusals::unfit;
 use answering::Answer;
 use calling::Call;
 use calling::carry_out;
 use checking::Checked;
 use checking::check;
 use checking::number;
-
-mod refusals;
+use refusing::halted;
+use refusing::short;
+use refusing::unfit;
 
 // Opens the policy: the state buffer need hold nothing beforehand.
 pub fn open(policy: &[u8], state: &mut [u8], events: &mut [u8]) -> Answer

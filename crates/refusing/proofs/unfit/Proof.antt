@@ -4,8 +4,8 @@ use mathlib.Core.Path.{ap}
 use mathlib.Core.Bool.{not}
 use Rattle.turns.specs.Entries.{broken12}
 use Rattle.tables.proofs.FileNodes.{room}
-use Rattle.guard.proofs.refusals.unfit.Statement.{statement}
-use Rattle.guard.proofs.refusals.unfit.Tie as tie
+use Rattle.refusing.proofs.unfit.Statement.{statement}
+use Rattle.refusing.proofs.unfit.Tie as tie
 
 nodes-of-requires : tie.Need-nodes-of-requires
 nodes-of-requires c κs = let r = room (c .before .before .pre .0) in omega arith

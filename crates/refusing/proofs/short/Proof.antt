@@ -1,8 +1,8 @@
 -- `short` meets its contract. Assumes nothing.
 use mathlib.Core.Path.{refl}
 use Rattle.turns.specs.Entries.{broken11}
-use Rattle.guard.proofs.refusals.short.Statement.{statement}
-use Rattle.guard.proofs.refusals.short.Tie as tie
+use Rattle.refusing.proofs.short.Statement.{statement}
+use Rattle.refusing.proofs.short.Tie as tie
 
 returns : tie.Need-returns
 unfolding broken11

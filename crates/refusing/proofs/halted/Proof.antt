@@ -5,8 +5,8 @@ use lib.Dec.{eqb}
 use borrow.Author.Needs.{needs}
 use Rattle.turns.specs.Saved.{statusAt}
 use Rattle.turns.specs.Entries.{broken14}
-use Rattle.guard.proofs.refusals.halted.Statement.{statement}
-use Rattle.guard.proofs.refusals.halted.Tie as tie
+use Rattle.refusing.proofs.halted.Statement.{statement}
+use Rattle.refusing.proofs.halted.Tie as tie
 use Rattle.turns.proofs.StatusLaws.{halted-five}
 
 returns : tie.Need-returns
