@@ -134,7 +134,8 @@ owned-count x h = go (nodeKind (x .kind)) refl
     go noNode e = absurd (rw e at h)
     go (aPair w j) e = rw (e, owned) (sym (zero-3 (x .count) (x .start) (x .set) (rw e at h) .0))
 
-every-listed : {A : Type 0} (g : A → Bool) (f : ℕ → A) (n : ℕ) → T (every g (listed f 0 n)) → (i : ℕ) → i < n → T (g (f i))
+-- a test over f 0, f 1, .., at one of them
+pub every-listed : {A : Type 0} (g : A → Bool) (f : ℕ → A) (n : ℕ) → T (every g (listed f 0 n)) → (i : ℕ) → i < n → T (g (f i))
 every-listed {A} g f n t i h =
     let z : 0 + i ≡ i = omega arith in
     let l : i < length (listed f 0 n) = omega (arith, listed-length f 0 n) in

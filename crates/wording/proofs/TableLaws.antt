@@ -1,13 +1,14 @@
 -- Laws of tables: what stands at a place of one, by one computation over the whole. Assumes nothing.
 use Prim.Native.Nat.{ℕ, _+_, _<_}
 use native.Mathlib.Omega.{arith}
-use mathlib.Core.Path.{_≡_, ap, _∙_, subst}
+use mathlib.Core.Path.{_≡_, ap, _∙_}
 use mathlib.Core.Bool.{Bool}
 use mathlib.Core.List.{List}
 use lib.Dec.{T}
-use lib.ListN.{length, getD}
+use lib.ListN.{getD}
 use Rattle.policy.specs.Lists.{every, listed}
-use Rattle.policy.proofs.ListLaws.{listed-length, listed-at, every-at}
+use Rattle.text.proofs.Printable.{every-listed}
+use Rattle.policy.proofs.ListLaws.{listed-at}
 
 pub table-at : {A : Type 0} (f : ℕ → A) (n : ℕ) (xs : List A) → xs ≡ listed f 0 n → (d : A) (i : ℕ) → i < n → getD xs i d ≡ f i
 table-at {A} f n xs e d i h =
@@ -16,7 +17,4 @@ table-at {A} f n xs e d i h =
 
 -- a test of f 0, f 1, .., at one place
 pub tested-at : (f : ℕ → Bool) (n : ℕ) → T (every f (listed (λ i. i) 0 n)) → (i : ℕ) → i < n → T (f i)
-tested-at f n t i h =
-    let z : 0 + i ≡ i = omega arith in
-    let l : i < length (listed (λ j. j) 0 n) = omega (arith, listed-length (λ j. j) 0 n) in
-    subst (λ (j : ℕ). T (f j)) (listed-at (λ j. j) 0 n 0 i h ∙ z) (every-at f (listed (λ j. j) 0 n) 0 t i l)
+tested-at f n t i h = every-listed f (λ j. j) n t i h

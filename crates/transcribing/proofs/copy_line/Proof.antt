@@ -1,18 +1,18 @@
 -- `copy_line` meets its contract: a node, a step, or nothing. Assumes nothing.
 use native.Mathlib.Omega.{arith}
-use mathlib.Core.Path.{ap, _∙_}
+use mathlib.Core.Path.{sym, ap, _∙_}
 use Prim.Native.Nat.{ℕ, _*_}
-use lib.ListN.{drop}
-use borrow.Author.Needs.{needs}
+use lib.ListN.{length, drop}
 use Rattle.policy.specs.Bytes.{put}
-use Rattle.text.specs.Forms.{node, recordOf}
+use Rattle.text.specs.Forms.{node, size, recordOf}
 use Rattle.text.specs.Reading.{readLines}
 use Rattle.transcribing.proofs.CopyLaws.{node-room, few-steps, node-copied, step-room, step-copied, none-copied}
+use Rattle.transcribing.proofs.WrittenLaws.{node-length, step-length}
 use Rattle.transcribing.proofs.copy_line.Statement.{statement}
 use Rattle.transcribing.proofs.copy_line.Tie as tie
 
 lead-requires : tie.Need-lead-requires
-lead-requires c κs = c .before .before .before .before .before .pre .inside
+lead-requires c κs = omega (arith, c .before .before .before .before .before .pre .inside)
 
 node-bytes-requires : tie.Need-node-bytes-requires
 node-bytes-requires c κs =
@@ -84,6 +84,14 @@ returns-3 c =
     let a = z .args in
     none-copied (a .line .form) (a .line .fields) (readLines (drop (a .next) (a .text .now))) (a .p .nodes) (a .p .steps) (a .nodes .now) (a .steps .now) (z .pre .roomy) (c .if2 .left)
 
+slice-aggregate-store : tie.Need-slice-aggregate-store
+unfolding size
+slice-aggregate-store c = sym (ap length (c .before .before .before .node-bytes .ensures) ∙ node-length _ _)
+
+slice-aggregate-store-2 : tie.Need-slice-aggregate-store-2
+unfolding size
+slice-aggregate-store-2 c = sym (ap length (c .before .before .before .step-bytes .ensures) ∙ step-length _)
+
 pub copy-line-spec : {M : Type 1} → statement M
 copy-line-spec =
     tie.close
@@ -91,16 +99,16 @@ copy-line-spec =
     lead-requires
     node-bytes-requires
     mul-store
-    (λ c. search needs)
+    slice-aggregate-store
     store-requires
     add-t13
-    (λ c. search needs)
+    (λ c. c .before .before .before .store .kept .0)
     returns
     step-bytes-requires
     mul-store-2
-    (λ c. search needs)
+    slice-aggregate-store-2
     store-requires-2
     add-t24
-    (λ c. search needs)
+    (λ c. c .before .before .before .store2 .kept .0)
     returns-2
     returns-3)
