@@ -1,0 +1,75 @@
+// guardtext: reads a policy file on standard input and prints its text, or `refused N` where the check refuses it. Proved is the text
+// (`tell`): it is what `specs/Shown` says of the file. Not proved, for no contract of the kit's can say it: that the bytes which `read`
+// leaves are those that came in, and that the text handed to `write` comes out. A read that fails counts as the end of the input.
+ghost use mathlib.Core.Path.{_≡_};
+ghost use Prim.Native.Nat.{_≤_};
+ghost use lib.ListN.{length};
+ghost use Rattle.text.specs.Printing.{text};
+ghost use Rattle.printing.specs.Printing.{given, Gave};
+ghost use Rattle.rules.specs.Passed.{Passed};
+ghost use Rattle.guardtext.specs.Shown.{textRoom, refusal, records, shown};
+use checking::Checked;
+use checking::check;
+use libc::STDIN_FILENO;
+use libc::STDOUT_FILENO;
+use printing::Printed;
+use printing::print;
+use printing::texts::append;
+use printing::texts::append_number;
+use reading::byte;
+
+fn refuse(room: &mut [u8], n: u8) -> Printed
+    requires { ⌜ textRoom ≤ length (now room) ⌝ }
+    ensures { λ r. ⌜ Gave (given (text (refusal n)) (now (room .entry))) r (now (room .exit)) × (r ≡ Printed.Short → ⊥) ⌝ }
+{
+    let begun = append(room, 0, b"refused ");
+    let said = append_number(room, begun, n as u64);
+    Printed::Text(append(room, said, b"\n"))
+}
+
+// The records of a file that passes lie one after another behind its front.
+fn print_records(policy: &[u8], room: &mut [u8]) -> Printed
+    requires { ⌜ Passed (now policy) × (textRoom ≤ length (now room)) ⌝ }
+    ensures { λ r. ⌜ Gave (given (records (now (policy .entry))) (now (room .entry))) r (now (room .exit)) × (r ≡ Printed.Short → ⊥) ⌝ }
+{
+    let steps = 6 + 16 * byte(policy, 3) as usize;
+    print(&policy[6..steps], &policy[steps..], room)
+}
+
+// Puts what is printed of the input into the room, which is long enough.
+fn tell(input: &[u8], room: &mut [u8]) -> Printed
+    requires { ⌜ textRoom ≤ length (now room) ⌝ }
+    ensures { λ r. ⌜ Gave (given (shown (now (input .entry))) (now (room .entry))) r (now (room .exit)) × (r ≡ Printed.Short → ⊥) ⌝ }
+{
+    if input.len() > 6646 {
+        return refuse(room, 1);
+    }
+    match check(input) {
+        Checked::Passed(_, _) => print_records(input, room),
+        Checked::Refused(n) => refuse(room, n),
+    }
+}
+
+// One byte more than the longest policy: where all of it is used, the input is none.
+fn input_room() -> [u8; 6647]
+    ensures { λ r. ⌜ 6647 ≡ length r ⌝ }
+{
+    [0; 6647]
+}
+
+fn text_room() -> [u8; 131072]
+    ensures { λ r. ⌜ 131072 ≡ length r ⌝ }
+{
+    [0; 131072]
+}
+
+// There is always room for the text; of records that have none nothing is printed.
+fn main() {
+    let mut input = input_room();
+    let end = io::read_full(STDIN_FILENO, &mut input);
+    let mut room = text_room();
+    let printed = tell(&input[..end], &mut room);
+    if let Printed::Text(length) = printed {
+        io::write_all(STDOUT_FILENO, &room[..length]);
+    }
+}

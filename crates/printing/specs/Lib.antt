@@ -1,0 +1,5 @@
+pub mod Added
+pub mod Meant
+pub mod Whole
+pub mod Laid
+pub mod Printing
