@@ -1,10 +1,10 @@
 -- Every definition of this crate by one name: a proof that computes with them says `unfolding opened`. Assumes nothing.
 use Rattle.policy.specs.Lists.{listed, summed, one, occurs, among, every, everyAt}
 use Rattle.policy.specs.Bytes.{spelt, number, spell, put}
-use Rattle.policy.specs.Records.{lengthField, versionField, nodeCount, stepCount, nodeAt, rowAt, nodePlace, rowPlace, nodes, rows}
+use Rattle.policy.specs.Records.{lengthField, versionField, nodeCount, stepCount, nodeAt, rowAt, nodePlace, rowPlace, nodes, rows, nodeBytes, stepBytes}
 use Rattle.policy.specs.Steps.{stepOf, targets, isNext, isIns}
 use Rattle.policy.specs.Tree.{nodeKind, owned, placed, noPlace, places, numberOf, grown, tree, regulated}
 
 unfoldable pub opened : Unit {0}
-unfolding listed summed one occurs among every everyAt spelt number spell put lengthField versionField nodeCount stepCount nodeAt rowAt nodePlace rowPlace nodes rows stepOf targets isNext isIns nodeKind owned placed noPlace places numberOf grown tree regulated
+unfolding listed summed one occurs among every everyAt spelt number spell put lengthField versionField nodeCount stepCount nodeAt rowAt nodePlace rowPlace nodes rows nodeBytes stepBytes stepOf targets isNext isIns nodeKind owned placed noPlace places numberOf grown tree regulated
 opened = tt

@@ -1,6 +1,7 @@
 -- The file as it lies: its front, its node records and its step records. Assumes nothing.
 use Prim.Native.Nat.{ℕ, _+_, _*_}
 use mathlib.Core.List.{List}
+use lib.ListN.{take, drop}
 use Rattle.policy.specs.Bytes.{Bytes, number}
 use Rattle.policy.specs.Lists.{listed}
 
@@ -87,3 +88,11 @@ nodes file = listed (λ i. nodeAt file (nodePlace i)) 0 (nodeCount file)
 unfoldable pub rows : Bytes → List Row
 unfolding rowPlace
 rows file = listed (λ i. rowAt file (rowPlace file i)) 0 (stepCount file)
+
+-- a file's own records, as they lie in it
+unfoldable pub nodeBytes : Bytes → Bytes
+nodeBytes file = take (nodeSize * nodeCount file) (drop frontSize file)
+
+unfoldable pub stepBytes : Bytes → Bytes
+unfolding nodePlace
+stepBytes file = take (stepSize * stepCount file) (drop (nodePlace (nodeCount file)) file)

@@ -3,22 +3,22 @@ use Prim.Native.Nat.{ℕ, zero, suc, _+_, _*_, _/_, _^_, _≤_, _<_}
 use native.Mathlib.Nat.{mul-add}
 use native.Mathlib.Omega.{arith}
 use mathlib.Core.Path.{_≡_, refl, ap, ap₂, _∙_, sym, subst, subst₂}
-use mathlib.Core.Bool.{Bool, _&&_, not}
+use mathlib.Core.Bool.{Bool, _&&_}
 use mathlib.Core.List.{[], _∷_, _++_, map}
-use lib.Dec.{T, eqb, leb, ltb, eqb→eq, le→leb}
+use lib.Dec.{T, eqb, leb, le→leb}
 use lib.ListN.{length, getD, take, drop, length-drop, take-append-drop, drop-of-length-le}
 use lib.Seq.{drop-drop, length-take-le, drop-cons, take-all}
 use Rattle.actions.specs.Sets.{ActionSet}
-use Rattle.actions.proofs.Tests.{yes-of, and-intro, and-left, not-not, or-false-right}
+use Rattle.actions.proofs.Tests.{yes-of, and-intro, and-left}
 use Rattle.policy.specs.Bytes.{Bytes, spelt, number, spell}
 use Rattle.policy.specs.Lists.{summed, every, listed}
-use Rattle.policy.specs.Records.{Node, Row, frontSize, nodeAt, rowAt, nodePlace, rowPlace, lengthField, versionField, nodeCount, stepCount, nodes, rows}
+use Rattle.policy.specs.Records.{Node, Row, frontSize, nodeAt, rowAt, nodePlace, rowPlace, nodeCount, stepCount, nodes, rows, nodeBytes, stepBytes}
 use Rattle.policy.specs.Tree.{NodeKind, aLeaf, aTrivial, anUnsatisfiable, aPair, noNode, nodeKind, owned}
 use Rattle.policy.specs.Parts
 use Rattle.policy.proofs.ByteLaws.{Small, small-take, small-drop, spelt-less, spell-spelt, part-part, number-part}
 use Rattle.policy.proofs.NumberLaws.{number-byte}
 use Rattle.policy.proofs.ListLaws.{listed-length, listed-at, every-at}
-use Rattle.rules.specs.Layout.{nodeFits, rowFits, broken1, broken2}
+use Rattle.rules.specs.Layout.{nodeFits, rowFits}
 use Rattle.rules.specs.Check.{passes, check}
 use Rattle.rules.specs.Passed.{Passed}
 use Rattle.rules.proofs.Passed.{passed}
@@ -26,7 +26,7 @@ use Rattle.rules.proofs.Rows.{CountsFit, counts-fit, nodes-fit, rows-fit, all-o
 use Rattle.text.specs.Words.{sameBytes, newline}
 use Rattle.text.specs.Forms.{Sort, node, step, size, fieldsIn, recordOf, place, bound, Form, bare}
 use Rattle.text.specs.Printing.{Print, text, both, lineText, said, countIn, says, printedIf, recordText, stepsText, nodesText, printed}
-use Rattle.text.specs.Files.{nodesIn, stepsIn, fileOf, ThereAndBack}
+use Rattle.text.specs.Files.{ThereAndBack}
 use Rattle.text.proofs.WordLaws.{same-refl}
 use Rattle.text.proofs.TextLaws.{read-text}
 use Rattle.text.proofs.WholeLaws.{zero-3, zero-4, Told, node-told, row-told}
@@ -174,21 +174,21 @@ module _ (file : Bytes) (small : Small file) (ok : Passed file) where
   counts : CountsFit file
   counts = counts-fit file (ok .kept3)
 
-  nodes-length : length (nodesIn file) ≡ size node * nodeCount file
-  unfolding nodesIn size rowPlace nodePlace
+  nodes-length : length (nodeBytes file) ≡ size node * nodeCount file
+  unfolding nodeBytes size rowPlace nodePlace
   nodes-length = length-take-le (16 * nodeCount file) (drop frontSize file) (simp length-drop (omega (arith, counts .long)))
 
-  steps-length : length (stepsIn file) ≡ size step * stepCount file
-  unfolding stepsIn size rowPlace nodePlace
+  steps-length : length (stepBytes file) ≡ size step * stepCount file
+  unfolding stepBytes size rowPlace nodePlace
   steps-length = length-take-le (12 * stepCount file) (drop (nodePlace (nodeCount file)) file) (simp length-drop (omega (arith, counts .long)))
 
   -- where a record lies among the records, and where in the file
-  node-lies : (i : ℕ) → i < nodeCount file → take (size node) (drop (size node * i) (nodesIn file)) ≡ take (size node) (drop (nodePlace i) file)
-  unfolding nodesIn size rowPlace nodePlace
+  node-lies : (i : ℕ) → i < nodeCount file → take (size node) (drop (size node * i) (nodeBytes file)) ≡ take (size node) (drop (nodePlace i) file)
+  unfolding nodeBytes size rowPlace nodePlace
   node-lies i h = part-part file frontSize (16 * nodeCount file) (16 * i) 16 (omega arith) (omega (arith, counts .long))
 
-  row-lies : (j : ℕ) → j < stepCount file → take (size step) (drop (size step * j) (stepsIn file)) ≡ take (size step) (drop (rowPlace file j) file)
-  unfolding stepsIn size rowPlace nodePlace
+  row-lies : (j : ℕ) → j < stepCount file → take (size step) (drop (size step * j) (stepBytes file)) ≡ take (size step) (drop (rowPlace file j) file)
+  unfolding stepBytes size rowPlace nodePlace
   row-lies j h = part-part file (nodePlace (nodeCount file)) (12 * stepCount file) (12 * j) 12 (omega arith) (omega (arith, counts .long))
 
   node-inside : (i : ℕ) → i < nodeCount file → nodePlace i + 16 ≤ length file
@@ -211,7 +211,7 @@ module _ (file : Bytes) (small : Small file) (ok : Passed file) where
   -- ---- each record has a line
 
   module _ (i : ℕ) (h : i < nodeCount file) where
-    node-line : HasText (recordText node i (take (size node) (drop (size node * i) (nodesIn file))))
+    node-line : HasText (recordText node i (take (size node) (drop (size node * i) (nodeBytes file))))
     unfolding size
     node-line =
         let bs : Bytes = take 16 (drop (nodePlace i) file) in
@@ -220,13 +220,13 @@ module _ (file : Bytes) (small : Small file) (ok : Passed file) where
         (length-take-le 16 (drop (nodePlace i) file) (simp length-drop (omega (arith, node-inside i h))))
         (subst (λ (x : Node). T (nodeFits (nodeKind (x .kind)) x)) (sym (node-cut file (nodePlace i) (node-inside i h))) (node-fits i h)))
 
-    node-count : countIn node (take (size node) (drop (size node * i) (nodesIn file))) ≡ owned (nodeAt file (nodePlace i))
+    node-count : countIn node (take (size node) (drop (size node * i) (nodeBytes file))) ≡ owned (nodeAt file (nodePlace i))
     unfolding size countIn
     node-count =
         ap (countIn node) (node-lies i h) ∙ ap (λ (x : Node). x .count) (node-cut file (nodePlace i) (node-inside i h))
         ∙ sym (owned-count (nodeAt file (nodePlace i)) (node-fits i h))
 
-  row-line : (j o : ℕ) → j < stepCount file → HasText (recordText step o (take (size step) (drop (size step * j) (stepsIn file))))
+  row-line : (j o : ℕ) → j < stepCount file → HasText (recordText step o (take (size step) (drop (size step * j) (stepBytes file))))
   unfolding size
   row-line j o h =
       let bs : Bytes = take 12 (drop (rowPlace file j) file) in
@@ -237,76 +237,42 @@ module _ (file : Bytes) (small : Small file) (ok : Passed file) where
 
   -- ---- and so have all
 
-  steps-have : (k j o : ℕ) → j + k ≤ stepCount file → HasText (stepsText k o (drop (size step * j) (stepsIn file)))
+  steps-have : (k j o : ℕ) → j + k ≤ stepCount file → HasText (stepsText k o (drop (size step * j) (stepBytes file)))
   unfolding stepsText size
   steps-have zero j o h = ([], refl)
   steps-have (suc k) j o h =
-      let rest : Bytes = drop (size step) (drop (size step * j) (stepsIn file)) in
-      both-has (recordText step o (take (size step) (drop (size step * j) (stepsIn file)))) (stepsText k (suc o) rest) (row-line j o (omega arith))
-      (subst (λ (x : Bytes). HasText (stepsText k (suc o) x)) (further (size step) 1 j (stepsIn file)) (steps-have k (j + 1) (suc o) (omega arith)))
+      let rest : Bytes = drop (size step) (drop (size step * j) (stepBytes file)) in
+      both-has (recordText step o (take (size step) (drop (size step * j) (stepBytes file)))) (stepsText k (suc o) rest) (row-line j o (omega arith))
+      (subst (λ (x : Bytes). HasText (stepsText k (suc o) x)) (further (size step) 1 j (stepBytes file)) (steps-have k (j + 1) (suc o) (omega arith)))
 
   nodes-have : (n i j : ℕ) → i + n ≡ nodeCount file → j + summed (map owned (listed (λ i. nodeAt file (nodePlace i)) i n)) ≡ stepCount file
-      → HasText (nodesText n i (drop (size node * i) (nodesIn file)) (drop (size step * j) (stepsIn file)))
+      → HasText (nodesText n i (drop (size node * i) (nodeBytes file)) (drop (size step * j) (stepBytes file)))
   unfolding nodesText listed summed size
   nodes-have zero i j h e =
-      let a : drop (16 * i) (nodesIn file) ≡ [] = drop-of-length-le (nodesIn file) {i = 16 * i} (omega (arith, nodes-length)) in
-      let b : drop (12 * j) (stepsIn file) ≡ [] = drop-of-length-le (stepsIn file) {i = 12 * j} (omega (arith, steps-length)) in
+      let a : drop (16 * i) (nodeBytes file) ≡ [] = drop-of-length-le (nodeBytes file) {i = 16 * i} (omega (arith, nodes-length)) in
+      let b : drop (12 * j) (stepBytes file) ≡ [] = drop-of-length-le (stepBytes file) {i = 12 * j} (omega (arith, steps-length)) in
       ([], ap₂ (nodesText zero i) a b)
   nodes-have (suc n) i j h e =
-      let ns : Bytes = drop (16 * i) (nodesIn file) in
-      let ss : Bytes = drop (12 * j) (stepsIn file) in
+      let ns : Bytes = drop (16 * i) (nodeBytes file) in
+      let ss : Bytes = drop (12 * j) (stepBytes file) in
       let c : ℕ = countIn node (take 16 ns) in
       let ec : c ≡ owned (nodeAt file (nodePlace i)) = node-count i (omega arith) in
       let z : suc i ≡ i + 1 = omega arith in
-      let a : drop (16 * suc i) (nodesIn file) ≡ drop 16 ns = ap (λ (m : ℕ). drop (16 * m) (nodesIn file)) z ∙ further 16 1 i (nodesIn file) in
-      let b : drop (12 * (j + c)) (stepsIn file) ≡ drop (12 * c) ss = further 12 c j (stepsIn file) in
+      let a : drop (16 * suc i) (nodeBytes file) ≡ drop 16 ns = ap (λ (m : ℕ). drop (16 * m) (nodeBytes file)) z ∙ further 16 1 i (nodeBytes file) in
+      let b : drop (12 * (j + c)) (stepBytes file) ≡ drop (12 * c) ss = further 12 c j (stepBytes file) in
       both-has (recordText node i (take 16 ns)) (both (stepsText c 0 ss) (nodesText n (suc i) (drop 16 ns) (drop (12 * c) ss))) (node-line i (omega arith))
       (both-has (stepsText c 0 ss) (nodesText n (suc i) (drop 16 ns) (drop (12 * c) ss)) (steps-have c j 0 (omega arith))
       (subst₂ (λ (x y : Bytes). HasText (nodesText n (suc i) x y)) a b (nodes-have n (suc i) (j + c) (omega arith) (omega arith))))
 
-  has-text : HasText (printed (nodesIn file) (stepsIn file))
+  has-text : HasText (printed (nodeBytes file) (stepBytes file))
   unfolding printed size nodes
   has-text =
-      let q : length (nodesIn file) / 16 ≡ nodeCount file = omega (arith, nodes-length) in
-      subst (λ (n : ℕ). HasText (nodesText n 0 (nodesIn file) (stepsIn file))) (sym q) (nodes-have (nodeCount file) 0 0 (omega arith) (omega (arith, all-owned file (ok .kept4) (ok .kept6))))
-
-  -- ---- the file again
-
-  length-kept : lengthField file ≡ length file
-  unfolding broken1
-  length-kept =
-      eqb→eq (lengthField file) (length file) (not-not (eqb (lengthField file) (length file))
-      (or-false-right (ltb (length file) frontSize) (not (eqb (lengthField file) (length file))) (ok .kept1)))
-
-  version-kept : versionField file ≡ 1
-  unfolding broken2
-  version-kept = eqb→eq (versionField file) 1 (not-not (eqb (versionField file) 1) (ok .kept2))
-
-  body-again : nodesIn file ++ stepsIn file ≡ drop frontSize file
-  unfolding nodesIn stepsIn size nodePlace rowPlace
-  body-again =
-      ap (λ (l : Bytes). take (16 * nodeCount file) (drop frontSize file) ++ l)
-      (take-all (12 * stepCount file) (drop (nodePlace (nodeCount file)) file) (simp length-drop (omega (arith, counts .long))) ∙ sym (drop-drop (16 * nodeCount file) frontSize file))
-      ∙ take-append-drop (16 * nodeCount file) (drop frontSize file)
-
-  file-again : fileOf (nodesIn file) (stepsIn file) ≡ file
-  unfolding fileOf size Parts.file lengthField versionField nodeCount stepCount rowPlace nodePlace
-  file-again =
-      let long : length file ≡ 6 + 16 * nodeCount file + 12 * stepCount file = counts .long in
-      let n : length (nodesIn file) / 16 ≡ nodeCount file = omega (arith, nodes-length) in
-      let m : length (stepsIn file) / 12 ≡ stepCount file = omega (arith, steps-length) in
-      let l : 6 + 16 * nodeCount file + 12 * stepCount file ≡ number file 0 2 = sym (length-kept ∙ long) in
-      ap₂ (λ (x y : ℕ). Parts.file x y (nodesIn file ++ stepsIn file)) n m
-      ∙ ap (Parts.file (nodeCount file) (stepCount file)) body-again
-      ∙ ap₂ (λ (x y : ℕ). spell 2 x ++ (y ∷ number file 3 1 ∷ (spell 2 (number file 4 2) ++ drop 6 file))) l (sym version-kept)
-      ∙ ap (λ (x : Bytes). spell 2 (number file 0 2) ++ (number file 2 1 ∷ number file 3 1 ∷ x)) (number-first file small 4 2 (omega arith))
-      ∙ ap (λ (x : Bytes). spell 2 (number file 0 2) ++ (number file 2 1 ∷ x)) (byte-first file small 3 (omega arith))
-      ∙ ap (λ (x : Bytes). spell 2 (number file 0 2) ++ x) (byte-first file small 2 (omega arith))
-      ∙ number-first file small 0 2 (omega arith)
+      let q : length (nodeBytes file) / 16 ≡ nodeCount file = omega (arith, nodes-length) in
+      subst (λ (n : ℕ). HasText (nodesText n 0 (nodeBytes file) (stepBytes file))) (sym q) (nodes-have (nodeCount file) 0 0 (omega arith) (omega (arith, all-owned file (ok .kept4) (ok .kept6))))
 
 -- Every file that the check passes goes to text and back.
 pub read-printed : (file : Bytes) (r e : ActionSet) → Small file → check file ≡ passes r e → ThereAndBack file
 read-printed file r e small h =
     let ok : Passed file = passed file r e h in
     let p = has-text file small ok in
-    record { text = p .0; prints = p .1; reads = read-text (nodesIn file) (stepsIn file) (p .0) (p .1); files = file-again file small ok }
+    record { text = p .0; prints = p .1; reads = read-text (nodeBytes file) (stepBytes file) (p .0) (p .1) }

@@ -4,8 +4,7 @@ use Rattle.text.specs.Numerals.{numberFrom, numeral, digits, decimal}
 use Rattle.text.specs.Forms.{sameSort, size, fieldsIn, recordOf, place, bound, forms, firstOf, named, ofKind, bare}
 use Rattle.text.specs.Reading.{tookIf, members, taken, filled, entryIf, lineOf, readLines, withNode, withStep, readFrom, answer, readText}
 use Rattle.text.specs.Printing.{both, listing, spaced, argument, arguments, indent, remark, lineText, said, countIn, says, printedIf, recordText, stepsText, nodesText, printed}
-use Rattle.text.specs.Files.{nodesIn, stepsIn, fileOf}
 
 unfoldable pub opened : Unit {0}
-unfolding ascii sameBytes linesFrom lines mark ended wordsFrom words numberFrom numeral digits decimal sameSort size fieldsIn recordOf place bound forms firstOf named ofKind bare tookIf members taken filled entryIf lineOf readLines withNode withStep readFrom answer readText both listing spaced argument arguments indent remark lineText said countIn says printedIf recordText stepsText nodesText printed nodesIn stepsIn fileOf
+unfolding ascii sameBytes linesFrom lines mark ended wordsFrom words numberFrom numeral digits decimal sameSort size fieldsIn recordOf place bound forms firstOf named ofKind bare tookIf members taken filled entryIf lineOf readLines withNode withStep readFrom answer readText both listing spaced argument arguments indent remark lineText said countIn says printedIf recordText stepsText nodesText printed
 opened = tt

@@ -11,7 +11,7 @@ use borrow.Author.Tests.{le-ltb}
 use Rattle.actions.specs.Sets.{ActionSet}
 use Rattle.actions.proofs.Tests.{not-not, or-false-right}
 use Rattle.policy.specs.Bytes.{Bytes, spelt, number, spell}
-use Rattle.policy.specs.Records.{nodeSize, stepSize, lengthField, versionField, nodeCount, stepCount, nodePlace, rowPlace}
+use Rattle.policy.specs.Records.{nodeSize, stepSize, lengthField, versionField, nodeCount, stepCount, nodePlace, rowPlace, nodeBytes, stepBytes}
 use Rattle.policy.specs.Parts.{file}
 use Rattle.policy.proofs.ByteLaws.{Small, small-take, small-drop, spell-spelt}
 use Rattle.policy.proofs.NumberLaws.{number-byte}
@@ -21,7 +21,7 @@ use Rattle.rules.specs.Check.{Answer, passes, check}
 use Rattle.rules.proofs.Rows.{CountsFit, counts-fit}
 use Rattle.rules.proofs.Passed.{passed}
 use Rattle.writing.specs.Writing.{holds, written, laid, after}
-use Rattle.writing.specs.Lent.{nodeBytes, stepBytes, Lent}
+use Rattle.writing.specs.Lent.{Lent}
 use Rattle.writing.specs.Promises.{WrittenAgain}
 use Rattle.writing.proofs.Files.{holds-is, by-check}
 use Rattle.writing.proofs.ReadBack.{node-bytes-length, step-bytes-length}

@@ -12,7 +12,7 @@ use borrow.Author.Tests.{ltb-true, ltb-false}
 use Rattle.actions.proofs.Tests.{and-left, and-right, true-not-false}
 use Rattle.policy.specs.Bytes.{Bytes, number, spell, put}
 use Rattle.policy.specs.Lists.{listed, every}
-use Rattle.policy.specs.Records.{nodeSize, stepSize, nodeCount, stepCount, nodeAt, rowAt, nodePlace, rowPlace, nodes, rows}
+use Rattle.policy.specs.Records.{nodeSize, stepSize, nodeCount, stepCount, nodeAt, rowAt, nodePlace, rowPlace, nodes, rows, nodeBytes, stepBytes}
 use Rattle.policy.specs.Tree.{regulated, tree}
 use Rattle.policy.specs.Parts.{file}
 use Rattle.policy.proofs.ByteLaws.{number-part, drop-after}
@@ -22,7 +22,7 @@ use Rattle.rules.proofs.Rows.{CountsFit, counts-fit}
 use Rattle.rules.proofs.Passed.{Lowest, here, after, passed, passes-all, refused-lowest}
 use Rattle.writing.specs.Writing as writing
 use Rattle.writing.specs.Writing.{holds, written, wrote, refuses, Result, refusal, laid, writes}
-use Rattle.writing.specs.Lent.{nodesLent, rowsLent, nodeBytes, stepBytes, lendable, Lent}
+use Rattle.writing.specs.Lent.{nodesLent, rowsLent, lendable, Lent}
 use Rattle.writing.specs.Promises.{ReadBack, Why, unlent, broken, short}
 use Rattle.writing.proofs.Files as files
 use Rattle.writing.proofs.Files.{holds-is, node-count, step-count-lent, kept1, kept2, kept3, lendable-lent, by-check}

@@ -4,10 +4,10 @@ use mathlib.Core.Path.{_≡_}
 use mathlib.Core.Bool.{Bool, _&&_}
 use mathlib.Core.List.{List}
 use lib.Dec.{leb}
-use lib.ListN.{length, take, drop}
+use lib.ListN.{length}
 use Rattle.policy.specs.Bytes.{Bytes}
 use Rattle.policy.specs.Lists.{listed}
-use Rattle.policy.specs.Records.{frontSize, nodeSize, stepSize, mostNodes, mostSteps, nodeCount, stepCount, Node, Row, nodeAt, rowAt, nodePlace}
+use Rattle.policy.specs.Records.{nodeSize, stepSize, mostNodes, mostSteps, Node, Row, nodeAt, rowAt}
 use Rattle.writing.specs.Writing.{holds, whole}
 
 -- the records that a buffer spells
@@ -16,14 +16,6 @@ nodesLent bs = listed (λ i. nodeAt bs (nodeSize * i)) 0 (holds nodeSize bs)
 
 unfoldable pub rowsLent : Bytes → List Row
 rowsLent bs = listed (λ i. rowAt bs (stepSize * i)) 0 (holds stepSize bs)
-
--- a file's own records, as they lie in it
-unfoldable pub nodeBytes : Bytes → Bytes
-nodeBytes file = take (nodeSize * nodeCount file) (drop frontSize file)
-
-unfoldable pub stepBytes : Bytes → Bytes
-unfolding nodePlace
-stepBytes file = take (stepSize * stepCount file) (drop (nodePlace (nodeCount file)) file)
 
 -- what the code tries before it lays a file
 unfoldable pub lendable : Bytes → Bytes → Bool

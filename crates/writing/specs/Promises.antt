@@ -5,12 +5,12 @@ use mathlib.Core.Bool.{false}
 use lib.ListN.{length, take, drop}
 use Rattle.actions.specs.Sets.{ActionSet}
 use Rattle.policy.specs.Bytes.{Bytes, put}
-use Rattle.policy.specs.Records.{nodes, rows}
+use Rattle.policy.specs.Records.{nodes, rows, nodeBytes, stepBytes}
 use Rattle.policy.specs.Tree.{regulated, tree}
 use Rattle.rules.specs.Interference.{effects}
 use Rattle.rules.specs.Check.{passes, refused, check}
 use Rattle.writing.specs.Writing.{written, wrote, Result, writes}
-use Rattle.writing.specs.Lent.{nodesLent, rowsLent, nodeBytes, stepBytes, lendable, Lent}
+use Rattle.writing.specs.Lent.{nodesLent, rowsLent, lendable, Lent}
 
 -- "Whatever it writes is read back by the check as the same records": the first n bytes of the output. "Output bytes after the file
 -- stay."
