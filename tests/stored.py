@@ -13,6 +13,7 @@ import pathlib
 import re
 import subprocess
 import sys
+import textwrap
 
 HERE = pathlib.Path(__file__).resolve().parent.parent
 
@@ -126,6 +127,40 @@ def as_text(policy):
     lines = lay_out(policy)[2]
     width = max(len(code) for code, remark in lines if remark) if any(r for _, r in lines) else 0
     return "\n".join(f"{code:<{width}}  # {remark}" if remark else code for code, remark in lines)
+
+
+def as_source(policy):
+    """The policy as the text that guardwrite reads: a record a line; a remark says its number and what it is for."""
+    nodes, steps, lines = lay_out(policy)
+    words = {number: name for name, number in STEP_KINDS.items()}
+    kinds = {2: "trivial", 3: "unsatisfiable", 4: "and", 5: "seq-and", 6: "or", 7: "seq-or"}
+    forms = {"next": "{first} {second}", "ok": "{first}", "sup": "{first}", "ins": "{action} {first}",
+             "acase": "{set} {first} {second}", "spend": "{operand} {first} {second}", "end": "", "halt": ""}
+    rows, at, own = [], 0, iter(steps)
+    for number, node in enumerate(nodes):
+        label, remark = lines[at]
+        name = re.match(r"node \d+, ([\w' ]+):", label)
+        said = ", ".join([f"node {number}"] + ([name[1]] if name else []) + ([remark] if remark else []))
+        if node["kind"] == NODE_KINDS["leaf"]:
+            rows.append((f"leaf {members(node['set']).replace(',', '')} {node['counter']}", said))
+        elif node["left"]:
+            rows.append((f"{kinds[node['kind']]} {node['left']} {node['right']}", said))
+        else:
+            rows.append((kinds[node["kind"]], said))
+        for offset in range(node["count"]):
+            step = next(own)
+            form = forms[words[step["kind"]]].format(set=members(step["operand"]).replace(",", ""), **step)
+            remark = lines[at + 1 + offset][1]
+            rows.append((f"  {words[step['kind']]} {form}".rstrip(), f"{offset}: {remark}" if remark else str(offset)))
+        at += 1 + node["count"]
+    width = max(len(code) for code, _ in rows)
+    return "".join(f"{code:<{width}}  # {remark}\n" for code, remark in rows)
+
+
+def sample_source(s):
+    commands = "; ".join(f"{a} {what}" for a, what in s["commands"].items())
+    about = textwrap.wrap(f"{s['name']}: {s['about']}", 100) + textwrap.wrap(f"Actions: {commands}.", 100)
+    return "".join(f"# {line}\n" for line in about) + "\n" + as_source(s["policy"])
 
 
 # ---------------------------------------------------------------------------
@@ -1001,8 +1036,8 @@ def sample_printed(s):
 def samples_readme():
     out = ["""# Sample policies
 
-For each sample: NAME.policy is the file, NAME.input is what guardrun reads (the policy, then the actions, one
-byte each), NAME.output is what it prints. All of them pass the check. The first nine follow document 002's examples, as
+For each sample: NAME.text is the policy as guardwrite reads it, NAME.policy is the file, which guardwrite prints, NAME.input is
+what guardrun reads (the policy, then the actions, one byte each), NAME.output is what it prints. All of them pass the check. The first nine follow document 002's examples, as
 far as actions without arguments allow; its genericRM is a function over policies and is left out.
 
 The policies are written one record a line, in the notation of 01's "Small policies to try": `next take/done`,
@@ -1050,6 +1085,7 @@ def described():
         policy = file_of(s["policy"])
         given = policy + bytes([a for a, _, _ in s["run"]] + s["unread"])
         files[f"samples/{s['name']}.policy"] = policy
+        files[f"samples/{s['name']}.text"] = sample_source(s).encode()
         files[f"samples/{s['name']}.input"] = given
         runs.append((f"samples/{s['name']}", given, sample_printed(s)))
     for r in RUNS:
@@ -1057,7 +1093,7 @@ def described():
         runs.append((f"tests/runs/{r['name']}", r["input"], r["printed"]))
     files["samples/README.md"] = samples_readme().encode()
     files["tests/runs/README.md"] = runs_readme().encode()
-    assert len(files) == 2 * len(SAMPLES) + len(RUNS) + 2, "a name stands twice"
+    assert len(files) == 3 * len(SAMPLES) + len(RUNS) + 2, "a name stands twice"
     return files, runs
 
 

@@ -31,16 +31,16 @@ module _ (text : Bytes) where
   -- ---- the line, and what follows it
 
   module _ (at end : ℕ) (e : LineEnds text at end) where
-    first-of-more : end < length text → lines (drop at text) ≡ slice at end text ∷ lines (drop (end + 1) text)
+    pub first-of-more : end < length text → lines (drop at text) ≡ slice at end text ∷ lines (drop (end + 1) text)
     unfolding lines linesFrom
     first-of-more h = e .same ∙ ap (linesFrom (slice at end text)) (from-here text end h) ∙ rw (linesFrom, eq-eqb (getD text end 0) newline (e .stops h))
 
-    last-line : length text ≤ end → lines (drop at text) ≡ slice at end text ∷ []
+    pub last-line : length text ≤ end → lines (drop at text) ≡ slice at end text ∷ []
     unfolding linesFrom
     last-line h = e .same ∙ ap (linesFrom (slice at end text)) (drop-of-length-le text {i = end} h)
 
 -- a part cut out from the front, and from the back
-part-slice : (l : Bytes) (a e : ℕ) → a ≤ e → slice a e l ≡ take (e - a) (drop a l)
+pub part-slice : (l : Bytes) (a e : ℕ) → a ≤ e → slice a e l ≡ take (e - a) (drop a l)
 part-slice l zero e h = let z : e ≡ e - 0 = omega arith in ap (λ (n : ℕ). take n l) z
 part-slice [] (suc a) zero h = absurd (omega arith)
 part-slice [] (suc a) (suc e) h = sym (take-nil (suc e - suc a))

@@ -11,7 +11,7 @@ use wording::read_line;
 const NEWLINE: u8 = 10;
 
 // Where the line that begins at `at` ends.
-fn line_end(text: &[u8], at: usize) -> usize
+pub fn line_end(text: &[u8], at: usize) -> usize
     requires { ⌜ at ≤ length (now text) ⌝ }
     ensures { λ r. ⌜ LineEnds (now (text .entry)) at r ⌝ }
 {

@@ -16,7 +16,7 @@ form-some : (i : ℕ) → i < formCount → formsFrom i ≡ some (formAt i)
 unfolding formsFrom headOf formAt forms
 form-some i h = ap headOf (drop-cons forms i noForm h)
 
-form-none : (i : ℕ) → formCount ≤ i → formsFrom i ≡ none
+pub form-none : (i : ℕ) → formCount ≤ i → formsFrom i ≡ none
 unfolding formsFrom headOf forms
 form-none i h = ap headOf (drop-of-length-le forms {i = i} h)
 

@@ -74,7 +74,7 @@ fn same(a: &[u8], from: usize, to: usize, b: &[u8], start: usize, end: usize) ->
 }
 
 // The form of a line that begins with this word, by its place in the table; past the last if there is none.
-fn form_of(line: &[u8], start: usize, end: usize) -> usize
+pub fn form_of(line: &[u8], start: usize, end: usize) -> usize
     requires { ⌜ (start ≤ end) × (end ≤ length (now line)) ⌝ }
     ensures { λ r. ⌜ named (slice start end (now (line .entry))) ≡ formsFrom r ⌝ }
 {

@@ -1,0 +1,54 @@
+-- Laws of what was expected in a line. Assumes nothing.
+use Prim.Native.Nat.{ℕ, zero, suc, _<_}
+use native.Mathlib.Omega.{arith}
+use mathlib.Core.Path.{_≡_, refl, sym, ap, ap₂, _∙_}
+use mathlib.Core.Bool.{Bool, true, false}
+use mathlib.Core.List.{List, []}
+use lib.Dec.{ltb}
+use lib.Seq.{slice, slice-empty}
+use borrow.Author.Tests.{le-ltb, eq-eqb, ne-eqb, ltb-false}
+use Rattle.policy.specs.Bytes.{Bytes}
+use Rattle.text.specs.Words.{ascii, words}
+use Rattle.text.specs.Forms.{Fields, named}
+use Rattle.text.specs.Reading.{Line, lineOf}
+use Rattle.scanning.specs.Scanned.{Next, wordAnd}
+use Rattle.wording.specs.Tables.{formCount, lineMeant}
+use Rattle.measuring.proofs.CountLaws.{meant-entry}
+use Rattle.blaming.specs.Expected.{expected, firstWord, astray, fault, roomBefore, lineNumber, faultIn}
+
+pub first-is : (line : Bytes) (start end : ℕ) → Next line 0 start end → firstWord (words line) ≡ slice start end line
+unfolding wordAnd firstWord
+first-is line start end n = go (ltb start end) refl
+  where
+    go : (b : Bool) → ltb start end ≡ b → firstWord (words line) ≡ slice start end line
+    go true e = ap firstWord (n .is) ∙ rw (wordAnd, e)
+    go false e =
+        let z : end ≡ start = omega (arith, n .ordered, ltb-false start end e) in
+        ap firstWord (n .is) ∙ rw (wordAnd, e) (sym (ap (λ (k : ℕ). slice start k line) z ∙ slice-empty start line))
+
+module _ (ws : List Bytes) (form : ℕ) (xs : Fields) (is : lineOf ws ≡ lineMeant form xs) (room : ℕ) where
+  pub fault-none : form ≡ 15 → fault (lineOf ws) ws room ≡ []
+  unfolding fault lineMeant
+  fault-none e = ap (λ (l : Line). fault l ws room) is ∙ rw (lineMeant, le-ltb form formCount (omega arith), eq-eqb form formCount e)
+
+  pub fault-step : form < 15 → fault (lineOf ws) ws room ≡ astray room
+  unfolding fault
+  fault-step h = ap (λ (l : Line). fault l ws room) (is ∙ meant-entry form xs h)
+
+  pub fault-bad : 15 < form → fault (lineOf ws) ws room ≡ expected (named (firstWord ws))
+  unfolding fault lineMeant
+  fault-bad h = ap (λ (l : Line). fault l ws room) is ∙ rw (lineMeant, le-ltb form formCount (omega arith), ne-eqb form formCount (λ e. omega arith))
+
+pub astray-none : (room : ℕ) → room ≡ 0 → ascii "a leaf before its steps" ≡ astray room
+unfolding astray
+astray-none zero e = refl
+astray-none (suc r) e = absurd (omega arith)
+
+pub astray-full : (room : ℕ) → (room ≡ 0 → ⊥) → ascii "at most 255 steps" ≡ astray room
+unfolding astray
+astray-full zero n = absurd (n refl)
+astray-full (suc r) n = refl
+
+pub fault-in : (text : Bytes) (n : ℕ) (line : Bytes) (room : ℕ) → lineNumber text n ≡ line → room ≡ roomBefore text n → fault (lineOf (words line)) (words line) room ≡ faultIn text n
+unfolding faultIn
+fault-in text n line room e f = sym (ap₂ (λ (l : Bytes) (r : ℕ). fault (lineOf (words l)) (words l) r) e (sym f))

@@ -1,0 +1,4 @@
+pub mod RowLaws
+pub mod StartLaws
+pub mod RoomLaws
+pub mod FaultLaws

@@ -1,0 +1,45 @@
+-- `usage` meets its contract: the form's row of the table. Assumes nothing.
+use native.Mathlib.Omega.{arith}
+use mathlib.Core.Path.{sym, ap, _∙_}
+use borrow.Author.Needs.{needs}
+use Rattle.spelling.proofs.AppendLaws.{named}
+use Rattle.blaming.specs.Expected.{expected}
+use Rattle.blaming.specs.Places.{row}
+use Rattle.blaming.proofs.RowLaws.{row-part}
+use Rattle.blaming.proofs.usage.Statement.{statement}
+use Rattle.blaming.proofs.usage.Tie as tie
+
+sub-append : tie.Need-sub-append
+sub-append c = let p = row-part (c .before .before .before .before .rows .ensures) (c .before .before .row-end .ensures) (c .before .row-end2 .ensures) (c .before .before .before .row-of .ensures .0) in omega (arith, p .ordered)
+
+part-append-start : tie.Need-part-append-start
+part-append-start c = let p = row-part (c .before .before .before .before .before .rows .ensures) (c .before .before .before .row-end .ensures) (c .before .before .row-end2 .ensures) (c .before .before .before .before .row-of .ensures .0) in omega (arith, p .ordered)
+
+part-append-end : tie.Need-part-append-end
+part-append-end c = let p = row-part (c .before .before .before .before .before .rows .ensures) (c .before .before .before .row-end .ensures) (c .before .before .row-end2 .ensures) (c .before .before .before .before .row-of .ensures .0) in omega (arith, p .ordered, p .inside)
+
+append-requires : tie.Need-append-requires
+append-requires c κs = let p = row-part (c .before .before .before .before .before .before .rows .ensures) (c .before .before .before .before .row-end .ensures) (c .before .before .before .row-end2 .ensures) (c .before .before .before .before .before .row-of .ensures .0) in omega (arith, p .ordered, p .short, p .size)
+
+returns : tie.Need-returns
+unfolding row
+returns c =
+    let p = row-part (c .before .before .before .before .before .before .before .before .before .rows .ensures) (c .before .before .before .before .before .before .before .row-end .ensures) (c .before .before .before .before .before .before .row-end2 .ensures) (c .before .before .before .before .before .before .before .before .row-of .ensures .0) in
+    let q = c .before .before .append .ensures in
+    (named q (p .is ∙ sym (ap expected (c .before .before .before .before .before .before .before .before .row-of .ensures .1))), omega (arith, q .ends, p .ordered, p .short, p .size))
+
+pub usage-spec : {M : Type 1} → statement M
+usage-spec =
+    tie.close
+    (tie.spec
+    (λ c κs. search needs)
+    (λ c κs. search needs)
+    (λ c κs. search needs)
+    (λ c. search needs)
+    (λ c κs. search needs)
+    sub-append
+    part-append-start
+    part-append-end
+    append-requires
+    (λ c. search needs)
+    returns)

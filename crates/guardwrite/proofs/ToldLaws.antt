@@ -1,0 +1,201 @@
+-- What reading a text and writing its file gave, and what is printed of it. Assumes nothing.
+use Prim.Native.Nat.{ℕ, _*_, _/_, _≤_, _<_}
+use native.Mathlib.Omega.{arith}
+use mathlib.Core.Path.{_≡_, refl, sym, ap, ap₂, _∙_, subst}
+use mathlib.Core.Bool.{Bool, true, false, _&&_}
+use lib.Dec.{T, ltb, leb, leb→le}
+use lib.ListN.{length, take}
+use lib.Seq.{take-all}
+use borrow.Author.Tests.{lt-ltb, le-ltb, ltb-true, ltb-false, le-leb}
+use Rattle.actions.proofs.Tests.{true-not-false, of-yes, and-left, and-right}
+use Rattle.policy.specs.Bytes.{Bytes, put}
+use Rattle.policy.proofs.ByteLaws.{put-length}
+use Rattle.text.specs.Forms.{size}
+use Rattle.text.specs.Reading as text
+use Rattle.text.specs.Reading.{records, badLine, readText, answer}
+use Rattle.measuring.specs.Measures.{sized, sizesRead}
+use Rattle.transcribing.specs.Transcribed.{Result, gave, transcribed}
+use Rattle.transcribing.specs.declared.Answer.{Answer}
+use Rattle.transcribing.specs.declared.Answer.the-variants.{Read, BadLine, Short}
+use Rattle.transcribing.proofs.ReadLaws.{Counts, counts}
+use Rattle.writing.specs.Writing as writing
+use Rattle.writing.specs.Writing.{holds, Reply, wrote, refuses, writes}
+use Rattle.writing.specs.Lent.{lendable, Lent}
+use Rattle.writing.specs.Replies.{spoken, Gave}
+use Rattle.writing.specs.declared.Written.{Written}
+use Rattle.writing.specs.declared.Written.the-variants.{Wrote, Refused}
+use Rattle.writing.proofs.Files.{lendable-lent, unlent}
+use Rattle.writing.proofs.Lays.{taken-again}
+use Rattle.writing.proofs.ReadBack.{read-back}
+use Rattle.spelling.specs.Appended.{Appended}
+use Rattle.blaming.specs.Expected.{lineSays, faultIn}
+use Rattle.blaming.specs.Places.{Tells}
+use Rattle.guardwrite.specs.Said.{refusal, filed, answered, mostText, tooLong, madeOver}
+
+pub alone : {a b x : Bytes} {r : ℕ} → Appended a 0 x b r → r ≤ length b → Tells b r x
+alone p h = record { text = p .text; inside = h }
+
+pub instead : {b x y : Bytes} {r : ℕ} → Tells b r x → x ≡ y → Tells b r y
+instead {b} {x} {y} {r} t e = subst (Tells b r) e t
+
+-- ---- the length of the text
+
+pub made-long : (room t : Bytes) → mostText < length t → tooLong t ≡ madeOver room t
+unfolding madeOver
+made-long room t h = sym (rw (madeOver, lt-ltb mostText (length t) h))
+
+pub made-short : (room t : Bytes) → length t ≤ mostText → answered room t (readText t) ≡ madeOver room t
+unfolding madeOver
+made-short room t h = sym (rw (madeOver, le-ltb mostText (length t) h))
+
+-- ---- the writer's answer
+
+module _ (ns ss out : Bytes) (r : Written) (bytes : Bytes) (g : Gave (writes ns ss out) r bytes) where
+  wrote-is : (q : Reply) (n : ℕ) → Wrote n ≡ spoken q → q ≡ wrote n
+  unfolding spoken
+  wrote-is (wrote k) n e = let z : k ≡ n = cc in ap wrote z
+  wrote-is (refuses k) n e = let z : _≡_ {A = ℕ} 0 1 = cc in absurd (omega arith)
+
+  refused-is : (q : Reply) (n : ℕ) → Refused n ≡ spoken q → q ≡ refuses n
+  unfolding spoken
+  refused-is (wrote k) n e = let z : _≡_ {A = ℕ} 0 1 = cc in absurd (omega arith)
+  refused-is (refuses k) n e = let z : k ≡ n = cc in ap refuses z
+
+  long-enough : (n : ℕ) (bs : Bytes) → length (take n bs) ≡ n → n ≤ length bs
+  long-enough n bs e = go (ltb (length bs) n) refl
+    where
+      go : (b : Bool) → ltb (length bs) n ≡ b → n ≤ length bs
+      go false q = ltb-false (length bs) n q
+      go true q =
+          let l : length bs < n = ltb-true (length bs) n q in
+          let z : length (take n bs) ≡ length bs = ap length (take-all n bs (omega arith)) in
+          absurd (omega arith)
+
+  pub file-wrote : (n : ℕ) → r ≡ Wrote n → Tells bytes n (filed (writes ns ss out))
+  unfolding filed
+  file-wrote n e =
+      let q : writes ns ss out .reply ≡ wrote n = wrote-is (writes ns ss out .reply) n (sym e ∙ g .answer) in
+      let b = read-back ns ss out n q in
+      record {
+        text = ap (take n) (g .out) ∙ sym (rw (filed, q));
+        inside = long-enough n bytes (ap (λ (x : Bytes). length (take n x)) (g .out) ∙ ap length (b .made) ∙ sym (b .size));
+      }
+
+  pub file-refused : (n : ℕ) → r ≡ Refused n → refusal n ≡ filed (writes ns ss out)
+  unfolding filed
+  file-refused n e = let q : writes ns ss out .reply ≡ refuses n = refused-is (writes ns ss out .reply) n (sym e ∙ g .answer) in sym (rw (filed, q))
+
+-- ---- the reader's answer
+
+-- The records stand at the front of the buffers, and what is printed is the writer's answer about them.
+pub record Stand (t N S : Bytes) (n m : ℕ) (N′ S′ out : Bytes) : Type 0 where
+  pub few-nodes : 16 * n ≤ length N
+  pub few-steps : 12 * m ≤ length S
+  pub nodes : length N′ ≡ length N
+  pub steps : length S′ ≡ length S
+  pub says : filed (writes (take (16 * n) N′) (take (12 * m) S′) out) ≡ answered out t (readText t)
+
+-- the three answers differ
+abbrev code : Answer → ℕ
+code (Read n m) = 0
+code (BadLine l) = 1
+code Short = 2
+
+unlike : {A : Type 0} (a b : Answer) → (code a ≡ code b → ⊥) → a ≡ b → A
+unlike a b n e = absurd (n (ap code e))
+
+answer-of : {a b : Answer} {ns ss ns′ ss′ : Bytes} → gave a ns ss ≡ gave b ns′ ss′ → a ≡ b
+answer-of e = ap (λ (x : Result). x .answer) e
+
+module _ (t N S N′ S′ out : Bytes) where
+  -- whether the records find room
+  abbrev fits : Bytes → Bytes → Bool
+  fits ns ss = leb (length ns) (length N) && leb (length ss) (length S)
+
+  record Given (ns ss : Bytes) (b : Bool) (a : Answer) : Type 0 where
+    is : readText t ≡ records ns ss
+    fit : fits ns ss ≡ b
+    answers : transcribed (records ns ss) N S ≡ gave a N′ S′
+
+  given-false : {ns ss : Bytes} {a : Answer} → Given ns ss false a → Short ≡ a
+  unfolding transcribed
+  given-false g = answer-of (rw (transcribed, g .fit) at (g .answers))
+
+  given-true : {ns ss : Bytes} {a : Answer} → Given ns ss true a → gave (Read (length ns / 16) (length ss / 12)) (put N 0 ns) (put S 0 ss) ≡ gave a N′ S′
+  unfolding transcribed size
+  given-true g = rw (transcribed, g .fit) at (g .answers)
+
+  stand : (n m : ℕ) (ns ss : Bytes) → Given ns ss true (Read n m) → Stand t N S n m N′ S′ out
+  unfolding answered readText answer sizesRead size
+  stand n m ns ss g =
+      let e = given-true g in
+      let u : Read (length ns / 16) (length ss / 12) ≡ Read n m = answer-of e in
+      let x : n ≡ length ns / 16 = cc in
+      let y : m ≡ length ss / 12 = cc in
+      let w : Counts t N S n m = counts t N S n m (ap₂ sized x y ∙ sym (ap sizesRead (g .is))) in
+      let v : records (w .nodes) (w .steps) ≡ records ns ss = sym (ap answer (w .reads)) ∙ g .is in
+      let p : w .nodes ≡ ns = cc in
+      let q : w .steps ≡ ss = cc in
+      let a : 16 * n ≡ length ns = sym (w .nodesLong) ∙ ap length p in
+      let b : 12 * m ≡ length ss = sym (w .stepsLong) ∙ ap length q in
+      let f : T (fits ns ss) = of-yes (fits ns ss) (g .fit) in
+      let h = leb→le (length ns) (length N) (and-left (leb (length ns) (length N)) (leb (length ss) (length S)) f) in
+      let k = leb→le (length ss) (length S) (and-right (leb (length ns) (length N)) (leb (length ss) (length S)) f) in
+      let N-is : N′ ≡ put N 0 ns = sym (ap (λ (r : Result). r .nodes) e) in
+      let S-is : S′ ≡ put S 0 ss = sym (ap (λ (r : Result). r .steps) e) in
+      record {
+        few-nodes = omega arith;
+        few-steps = omega arith;
+        nodes = ap length N-is ∙ put-length N 0 ns (omega arith);
+        steps = ap length S-is ∙ put-length S 0 ss (omega arith);
+        says = ap₂ (λ (x y : Bytes). filed (writes x y out)) (taken-again N a N-is) (taken-again S b S-is) ∙ sym (ap (answered out t) (g .is));
+      }
+
+  by-answer : {C : Type 0} (a : Answer) → ((l : ℕ) → readText t ≡ badLine l → BadLine l ≡ a → C) → ((ns ss : Bytes) (b : Bool) → Given ns ss b a → C)
+      → transcribed (readText t) N S ≡ gave a N′ S′ → C
+  unfolding transcribed
+  by-answer {C} a bad good = go (readText t) refl
+    where
+      go : (r : text.Read) → readText t ≡ r → transcribed r N S ≡ gave a N′ S′ → C
+      go (badLine l) q e = bad l q (answer-of e)
+      go (records ns ss) q e = good ns ss (fits ns ss) (record { is = q; fit = refl; answers = e })
+
+  pub was-read : (n m : ℕ) → transcribed (readText t) N S ≡ gave (Read n m) N′ S′ → Stand t N S n m N′ S′ out
+  was-read n m = by-answer (Read n m) (λ l q e. unlike (BadLine l) (Read n m) (λ z. omega arith) e) go
+    where
+      go : (ns ss : Bytes) (b : Bool) → Given ns ss b (Read n m) → Stand t N S n m N′ S′ out
+      go ns ss true g = stand n m ns ss g
+      go ns ss false g = unlike Short (Read n m) (λ z. omega arith) (given-false g)
+
+  pub was-bad : (l : ℕ) → transcribed (readText t) N S ≡ gave (BadLine l) N′ S′ → lineSays l (faultIn t l) ≡ answered out t (readText t)
+  unfolding answered
+  was-bad l = by-answer (BadLine l) (λ k q e. said k e ∙ sym (ap (answered out t) q)) go
+    where
+      said : (k : ℕ) → BadLine k ≡ BadLine l → lineSays l (faultIn t l) ≡ lineSays k (faultIn t k)
+      said k e = let z : l ≡ k = cc in ap (λ (x : ℕ). lineSays x (faultIn t x)) z
+
+      go : (ns ss : Bytes) (b : Bool) → Given ns ss b (BadLine l) → lineSays l (faultIn t l) ≡ answered out t (readText t)
+      go ns ss true g = unlike (Read (length ns / 16) (length ss / 12)) (BadLine l) (λ z. omega arith) (answer-of (given-true g))
+      go ns ss false g = unlike Short (BadLine l) (λ z. omega arith) (given-false g)
+
+  module _ (nodes : 512 ≡ length N) (steps : 6156 ≡ length S) where
+    -- more than fits is more than a file may have
+    too-many : (ns ss : Bytes) → fits ns ss ≡ false → refusal 3 ≡ filed (writes ns ss out)
+    unfolding filed writing.refusal holds
+    too-many ns ss k = go (lendable ns ss) refl
+      where
+        go : (b : Bool) → lendable ns ss ≡ b → refusal 3 ≡ filed (writes ns ss out)
+        go false e = sym (ap filed (unlent ns ss out e))
+        go true e =
+            let l : Lent ns ss = lendable-lent ns ss e in
+            let a = le-leb (length ns) (length N) (omega (arith, l .node-bytes, l .few-nodes)) in
+            let b = le-leb (length ss) (length S) (omega (arith, l .step-bytes, l .few-steps)) in
+            true-not-false (ap₂ (λ (x y : Bool). x && y) a b) k
+
+    pub was-short : transcribed (readText t) N S ≡ gave Short N′ S′ → refusal 3 ≡ answered out t (readText t)
+    unfolding answered
+    was-short = by-answer Short (λ l q e. unlike (BadLine l) Short (λ z. omega arith) e) go
+      where
+        go : (ns ss : Bytes) (b : Bool) → Given ns ss b Short → refusal 3 ≡ answered out t (readText t)
+        go ns ss true g = unlike (Read (length ns / 16) (length ss / 12)) Short (λ z. omega arith) (answer-of (given-true g))
+        go ns ss false g = too-many ns ss (g .fit) ∙ sym (ap (answered out t) (g .is))

@@ -1,0 +1,26 @@
+-- `tell` meets its contract: a text too long, or one that is read. Assumes nothing.
+use borrow.Author.Needs.{needs}
+use Rattle.guardwrite.proofs.ToldLaws.{instead, made-long, made-short}
+use Rattle.guardwrite.proofs.told.tell.Statement.{statement}
+use Rattle.guardwrite.proofs.told.tell.Tie as tie
+
+returns : tie.Need-returns
+returns c = let a = c .before .before .before .before .before .before .before .args in instead (c .before .before .too-long .ensures) (made-long (a .out .now) (a .text .now) (c .before .before .before .before .if1 .taken))
+
+returns-2 : tie.Need-returns-2
+returns-2 c = let a = c .before .before .before .before .before .before .before .before .before .before .before .before .before .args in instead (c .before .before .before .before .fill .ensures) (made-short (a .out .now) (a .text .now) (c .before .before .before .before .before .before .before .before .before .before .if1 .left))
+
+pub tell-spec : {M : Type 1} → statement M
+tell-spec =
+    tie.close
+    (tie.spec
+    (λ c κs. search needs)
+    (λ c. search needs)
+    returns
+    (λ c κs. search needs)
+    (λ c κs. search needs)
+    (λ c. search needs)
+    (λ c. search needs)
+    (λ c κs. search needs)
+    (λ c. search needs)
+    returns-2)

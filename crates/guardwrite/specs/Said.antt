@@ -1,0 +1,43 @@
+-- What guardwrite prints of a text. Assumes nothing.
+use Prim.Native.Nat.{ℕ}
+use mathlib.Core.Bool.{true, false}
+use mathlib.Core.List.{_++_}
+use lib.Dec.{ltb}
+use lib.ListN.{length, take, replicate}
+use Rattle.policy.specs.Bytes.{Bytes}
+use Rattle.text.specs.Words.{ascii, lines}
+use Rattle.text.specs.Numerals.{decimal}
+use Rattle.text.specs.Reading.{Read, records, badLine, readText}
+use Rattle.blaming.specs.Expected.{lineSays, faultIn}
+use Rattle.writing.specs.Writing.{wrote, refuses, Result, writes}
+
+unfoldable pub refusal : ℕ → Bytes
+refusal n = ascii "refused " ++ (decimal n ++ ascii "\n")
+
+-- the file, or a refusal and no byte of a file
+unfoldable pub filed : Result → Bytes
+filed x = elim (x .reply) [ wrote n ↦ take n (x .out) | refuses n ↦ refusal n ]
+
+-- More nodes or steps than a file may have are refused with 3 by the writer, and so are more than there is room for.
+unfoldable pub answered : Bytes → Bytes → Read → Bytes
+answered room text (records ns ss) = filed (writes ns ss room)
+answered room text (badLine n) = lineSays n (faultIn text n)
+
+abbrev pub mostText : ℕ
+mostText = 262144
+
+-- the line in which the first byte lies that is too many
+unfoldable pub tooLong : Bytes → Bytes
+tooLong text = lineSays (length (lines (take mostText text))) (ascii "a text of at most 262144 bytes")
+
+-- All that is printed, from all that is read and what the output held before; where it holds `outRoom` bytes, they do not matter.
+unfoldable pub madeOver : Bytes → Bytes → Bytes
+madeOver room text = elim (ltb mostText (length text)) [ true ↦ tooLong text | false ↦ answered room text (readText text) ]
+
+-- "length is 6 + 16n + 12m", of 31 nodes and 512 steps
+abbrev pub outRoom : ℕ
+outRoom = 6646
+
+-- All that is printed, from all that is read.
+unfoldable pub made : Bytes → Bytes
+made text = madeOver (replicate outRoom 0) text

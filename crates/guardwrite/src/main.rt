@@ -1,0 +1,33 @@
+// guardwrite: reads a policy's text on standard input, and prints the policy file, or one line that says what is wrong. Proved is what
+// is printed of the bytes read (`told`): it is what `specs/Said` says. Not proved, for no contract of the kit's can say it: that the bytes
+// which `read` leaves are those that came in, and that those handed to `write` come out. A read that fails counts as the end of the input.
+ghost use mathlib.Core.Path.{_≡_};
+ghost use lib.ListN.{length};
+ghost use Rattle.guardwrite.specs.Said.{outRoom};
+use crate::told::tell;
+use libc::STDIN_FILENO;
+use libc::STDOUT_FILENO;
+
+mod told;
+
+// Room for the longest text, and one byte by which a longer one is known.
+fn text_room() -> [u8; 262145]
+    ensures { λ r. ⌜ 262145 ≡ length r ⌝ }
+{
+    [0; 262145]
+}
+
+// Room for the longest file.
+fn file_room() -> [u8; 6646]
+    ensures { λ r. ⌜ outRoom ≡ length r ⌝ }
+{
+    [0; 6646]
+}
+
+fn main() {
+    let mut text = text_room();
+    let mut out = file_room();
+    let end = io::read_full(STDIN_FILENO, &mut text);
+    let said = tell(&text[..end], &mut out);
+    io::write_all(STDOUT_FILENO, &out[..said]);
+}

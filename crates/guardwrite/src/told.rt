@@ -1,0 +1,86 @@
+// What is printed of a text, put at the start of a lent buffer.
+ghost use mathlib.Core.Path.{_≡_};
+ghost use Prim.Native.Nat.{_≤_, _<_};
+ghost use lib.ListN.{length};
+ghost use Rattle.text.specs.Reading.{readText};
+ghost use Rattle.writing.specs.Writing.{writes};
+ghost use Rattle.blaming.specs.Places.{Tells};
+ghost use Rattle.guardwrite.specs.Said.{refusal, filed, answered, mostText, tooLong, outRoom, madeOver};
+use blaming::bad_line;
+use blaming::begin;
+use blaming::line_count;
+use spelling::append;
+use spelling::append_number;
+use transcribing::Answer;
+use transcribing::read;
+use writing::Written;
+use writing::write;
+
+fn refused(n: u8, out: &mut [u8]) -> usize
+    requires { ⌜ outRoom ≤ length (now out) ⌝ }
+    ensures { λ r. ⌜ Tells (now (out .exit)) r (refusal n) ⌝ }
+{
+    let named = append(out, 0, b"refused ");
+    let numbered = append_number(out, named, n as u64);
+    append(out, numbered, b"\n")
+}
+
+// The file of the records, or the writer's refusal.
+fn file(nodes: &[u8], steps: &[u8], out: &mut [u8]) -> usize
+    requires { ⌜ outRoom ≤ length (now out) ⌝ }
+    ensures { λ r. ⌜ Tells (now (out .exit)) r (filed (writes (now (nodes .entry)) (now (steps .entry)) (now (out .entry)))) ⌝ }
+{
+    let written = write(nodes, steps, out);
+    match written {
+        Written::Wrote(length) => length as usize,
+        Written::Refused(n) => refused(n, out),
+    }
+}
+
+fn too_long(text: &[u8], out: &mut [u8]) -> usize
+    requires { ⌜ (mostText < length (now text)) × (outRoom ≤ length (now out)) ⌝ }
+    ensures { λ r. ⌜ Tells (now (out .exit)) r (tooLong (now (text .entry))) ⌝ }
+{
+    let n = line_count(&text[..262144]);
+    let begun = begin(n, out);
+    let said = append(out, begun, b"a text of at most 262144 bytes");
+    append(out, said, b"\n")
+}
+
+// Reads the text into the two buffers, and tells what became of it.
+fn fill(text: &[u8], nodes: &mut [u8], steps: &mut [u8], out: &mut [u8]) -> usize
+    requires { ⌜ (512 ≡ length (now nodes)) × (6156 ≡ length (now steps)) × (outRoom ≤ length (now out)) ⌝ }
+    ensures { λ r. ⌜ Tells (now (out .exit)) r (answered (now (out .entry)) (now (text .entry)) (readText (now (text .entry)))) ⌝ }
+{
+    let answer = read(text, nodes, steps);
+    match answer {
+        Answer::Read(n, m) => file(&nodes[..16 * n], &steps[..12 * m], out),
+        Answer::BadLine(line) => bad_line(text, line, out),
+        Answer::Short => refused(3, out),
+    }
+}
+
+// Room for 32 nodes and for 513 steps: what does not fit is what the writer refuses with 3.
+fn node_room() -> [u8; 512]
+    ensures { λ r. ⌜ 512 ≡ length r ⌝ }
+{
+    [0; 512]
+}
+
+fn step_room() -> [u8; 6156]
+    ensures { λ r. ⌜ 6156 ≡ length r ⌝ }
+{
+    [0; 6156]
+}
+
+pub fn tell(text: &[u8], out: &mut [u8]) -> usize
+    requires { ⌜ outRoom ≤ length (now out) ⌝ }
+    ensures { λ r. ⌜ Tells (now (out .exit)) r (madeOver (now (out .entry)) (now (text .entry))) ⌝ }
+{
+    if text.len() > 262144 {
+        return too_long(text, out);
+    }
+    let mut nodes = node_room();
+    let mut steps = step_room();
+    fill(text, &mut nodes, &mut steps, out)
+}
