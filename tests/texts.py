@@ -3,6 +3,9 @@
 
   python3 tests/texts.py make GUARDRUN       write every file; GUARDRUN, second/run, says what the check refuses
   python3 tests/texts.py check GUARDWRITE    run GUARDWRITE on every stored text, compare with what is stored
+  python3 tests/texts.py back GUARDRUN GUARDTEXT
+                                             run GUARDTEXT on the policy of every sample and stored run of guardrun: the model must read
+                                             the very file from what is printed, or both refuse it by the same number
 
 What must be printed is written by hand, or is the file that tests/stored.py lays out of the same policy. `make` also asks a
 model of the text, which shares nothing with the proved code, and stops where it says something else. `check` also demands
@@ -237,7 +240,32 @@ def check(guardwrite):
     sys.exit(1 if faults or len(samples) != len(stored.SAMPLES) else 0)
 
 
+def files():
+    """Policy files, good and bad, by name: those of the samples and of the stored runs, and some that are none."""
+    found = {f"samples/{p.name}": p.read_bytes() for p in sorted((HERE / "samples").glob("*.policy"))}
+    for p in sorted((HERE / "tests/runs").glob("*.input")):
+        given = p.read_bytes()
+        found[f"tests/runs/{p.name}"] = given[:int.from_bytes(given[:2], "big")]
+    odd = {"nothing": b"", "three bytes": bytes(3), "a byte too long": b"\x19\xf7" + bytes(6645), "7000 bytes": bytes(7000)}
+    return {**found, **odd}
+
+
+def back(guardrun, guardtext):
+    faults = []
+    for name, file in files().items():
+        said, printed = stored.printed_by(guardrun, file), stored.printed_by(guardtext, file)
+        expected = printed == said if said.startswith(b"refused ") else model(printed, guardrun) == file
+        faults += [] if expected else [name]
+    for fault in faults:
+        print(f"differs: {fault}")
+    print(f"{len(files())} files to text and back, {len(faults)} differ")
+    sys.exit(1 if faults else 0)
+
+
 if __name__ == "__main__":
-    if len(sys.argv) < 3 or sys.argv[1] not in ("make", "check"):
+    if len(sys.argv) < 3 or sys.argv[1] not in ("make", "check", "back"):
         sys.exit(__doc__)
-    (make if sys.argv[1] == "make" else check)([str(pathlib.Path(sys.argv[2]).resolve()), *sys.argv[3:]])
+    first = [str(pathlib.Path(sys.argv[2]).resolve())]
+    if sys.argv[1] == "back":
+        back(first, sys.argv[3:])
+    (make if sys.argv[1] == "make" else check)([*first, *sys.argv[3:]])
