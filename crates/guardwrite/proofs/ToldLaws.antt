@@ -1,15 +1,17 @@
 -- What reading a text and writing its file gave, and what is printed of it. Assumes nothing.
 use Prim.Native.Nat.{ℕ, _*_, _/_, _≤_, _<_}
+use native.Mathlib.Nat.{le-of-eq}
 use native.Mathlib.Omega.{arith}
 use mathlib.Core.Path.{_≡_, refl, sym, ap, ap₂, _∙_, subst}
 use mathlib.Core.Bool.{Bool, true, false, _&&_}
 use lib.Dec.{T, ltb, leb, leb→le}
-use lib.ListN.{length, take}
+use lib.ListN.{length, take, replicate, length-replicate}
 use lib.Seq.{take-all}
 use borrow.Author.Tests.{lt-ltb, le-ltb, ltb-true, ltb-false, le-leb}
 use Rattle.actions.proofs.Tests.{true-not-false, of-yes, and-left, and-right}
 use Rattle.policy.specs.Bytes.{Bytes, put}
 use Rattle.policy.proofs.ByteLaws.{put-length}
+use Rattle.rules.specs.Check as check
 use Rattle.text.specs.Forms.{size}
 use Rattle.text.specs.Reading as text
 use Rattle.text.specs.Reading.{records, badLine, readText, answer}
@@ -19,18 +21,18 @@ use Rattle.transcribing.specs.declared.Answer.{Answer}
 use Rattle.transcribing.specs.declared.Answer.the-variants.{Read, BadLine, Short}
 use Rattle.transcribing.proofs.ReadLaws.{Counts, counts}
 use Rattle.writing.specs.Writing as writing
-use Rattle.writing.specs.Writing.{holds, Reply, wrote, refuses, writes}
+use Rattle.writing.specs.Writing.{holds, Reply, wrote, refuses, writes, written, laid, after}
 use Rattle.writing.specs.Lent.{lendable, Lent}
 use Rattle.writing.specs.Replies.{spoken, Gave}
 use Rattle.writing.specs.declared.Written.{Written}
 use Rattle.writing.specs.declared.Written.the-variants.{Wrote, Refused}
-use Rattle.writing.proofs.Files.{lendable-lent, unlent}
+use Rattle.writing.proofs.Files.{written-length, lendable-lent, unlent, by-check}
 use Rattle.writing.proofs.Lays.{taken-again}
 use Rattle.writing.proofs.ReadBack.{read-back}
 use Rattle.spelling.specs.Appended.{Appended}
 use Rattle.blaming.specs.Expected.{lineSays, faultIn}
 use Rattle.blaming.specs.Places.{Tells}
-use Rattle.guardwrite.specs.Said.{refusal, filed, answered, mostText, tooLong, madeOver}
+use Rattle.guardwrite.specs.Said.{refusal, filed, answered, mostText, tooLong, outRoom, madeOver, made}
 
 pub alone : {a b x : Bytes} {r : ℕ} → Appended a 0 x b r → r ≤ length b → Tells b r x
 alone p h = record { text = p .text; inside = h }
@@ -40,13 +42,13 @@ instead {b} {x} {y} {r} t e = subst (Tells b r) e t
 
 -- ---- the length of the text
 
-pub made-long : (room t : Bytes) → mostText < length t → tooLong t ≡ madeOver room t
+made-long-over : (room t : Bytes) → mostText < length t → tooLong t ≡ madeOver room t
 unfolding madeOver
-made-long room t h = sym (rw (madeOver, lt-ltb mostText (length t) h))
+made-long-over room t h = sym (rw (madeOver, lt-ltb mostText (length t) h))
 
-pub made-short : (room t : Bytes) → length t ≤ mostText → answered room t (readText t) ≡ madeOver room t
+made-short-over : (room t : Bytes) → length t ≤ mostText → answered room t (readText t) ≡ madeOver room t
 unfolding madeOver
-made-short room t h = sym (rw (madeOver, le-ltb mostText (length t) h))
+made-short-over room t h = sym (rw (madeOver, le-ltb mostText (length t) h))
 
 -- ---- the writer's answer
 
@@ -84,6 +86,54 @@ module _ (ns ss out : Bytes) (r : Written) (bytes : Bytes) (g : Gave (writes ns 
   pub file-refused : (n : ℕ) → r ≡ Refused n → refusal n ≡ filed (writes ns ss out)
   unfolding filed
   file-refused n e = let q : writes ns ss out .reply ≡ refuses n = refused-is (writes ns ss out .reply) n (sym e ∙ g .answer) in sym (rw (filed, q))
+
+-- ---- what the output held before does not matter
+
+module _ (a b : Bytes) (long : outRoom ≤ length a) (long′ : outRoom ≤ length b) where
+  laid-whole : (c made : Bytes) → length made ≤ length c → filed (laid made c) ≡ made
+  unfolding filed laid
+  laid-whole c made h = rw (laid, le-ltb (length c) (length made) h) (taken-again c refl refl)
+
+  same-after : (x : check.Answer) (made : Bytes) → length made ≤ outRoom → filed (after x made a) ≡ filed (after x made b)
+  unfolding filed after writing.refusal
+  same-after (check.passes r e) made h = laid-whole a made (omega arith) ∙ sym (laid-whole b made (omega arith))
+  same-after (check.refused n) made h = refl
+
+  same-file : (ns ss : Bytes) → filed (writes ns ss a) ≡ filed (writes ns ss b)
+  unfolding filed writing.refusal
+  same-file ns ss = go (lendable ns ss) refl
+    where
+      go : (x : Bool) → lendable ns ss ≡ x → filed (writes ns ss a) ≡ filed (writes ns ss b)
+      go false e = ap filed (unlent ns ss a e) ∙ sym (ap filed (unlent ns ss b e))
+      go true e =
+          let l : Lent ns ss = lendable-lent ns ss e in
+          ap filed (by-check ns ss a l)
+          ∙ same-after (check.check (written ns ss)) (written ns ss) (omega (arith, written-length ns ss, l .node-bytes, l .step-bytes, l .few-nodes, l .few-steps))
+          ∙ sym (ap filed (by-check ns ss b l))
+
+  same-answer : (t : Bytes) (r : text.Read) → answered a t r ≡ answered b t r
+  unfolding answered
+  same-answer t (records ns ss) = same-file ns ss
+  same-answer t (badLine n) = refl
+
+  made-same : (t : Bytes) → madeOver a t ≡ madeOver b t
+  unfolding madeOver
+  made-same t = go (ltb mostText (length t)) refl
+    where
+      go : (x : Bool) → ltb mostText (length t) ≡ x → madeOver a t ≡ madeOver b t
+      go true e = rw (madeOver, e)
+      go false e = rw (madeOver, e) (same-answer t (readText t))
+
+made-any : (room t : Bytes) → outRoom ≤ length room → madeOver room t ≡ made t
+unfolding made
+made-any room t h = made-same room (replicate outRoom 0) h (le-of-eq (sym (length-replicate {A = ℕ} outRoom 0))) t
+
+module _ (room t : Bytes) (long : outRoom ≤ length room) where
+  pub made-long : mostText < length t → tooLong t ≡ made t
+  made-long h = made-long-over room t h ∙ made-any room t long
+
+  pub made-short : length t ≤ mostText → answered room t (readText t) ≡ made t
+  made-short h = made-short-over room t h ∙ made-any room t long
 
 -- ---- the reader's answer
 

@@ -30,7 +30,7 @@ mostText = 262144
 unfoldable pub tooLong : Bytes → Bytes
 tooLong text = lineSays (length (lines (take mostText text))) (ascii "a text of at most 262144 bytes")
 
--- All that is printed, from all that is read and what the output held before; where it holds `outRoom` bytes, they do not matter.
+-- All that is printed, from what the output held before and all that is read.
 unfoldable pub madeOver : Bytes → Bytes → Bytes
 madeOver room text = elim (ltb mostText (length text)) [ true ↦ tooLong text | false ↦ answered room text (readText text) ]
 
@@ -38,6 +38,6 @@ madeOver room text = elim (ltb mostText (length text)) [ true ↦ tooLong text |
 abbrev pub outRoom : ℕ
 outRoom = 6646
 
--- All that is printed, from all that is read.
+-- All that is printed, from all that is read: the same over any output of so many bytes (`tell`).
 unfoldable pub made : Bytes → Bytes
 made text = madeOver (replicate outRoom 0) text

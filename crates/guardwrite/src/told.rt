@@ -5,7 +5,7 @@ ghost use lib.ListN.{length};
 ghost use Rattle.text.specs.Reading.{readText};
 ghost use Rattle.writing.specs.Writing.{writes};
 ghost use Rattle.blaming.specs.Places.{Tells};
-ghost use Rattle.guardwrite.specs.Said.{refusal, filed, answered, mostText, tooLong, outRoom, madeOver};
+ghost use Rattle.guardwrite.specs.Said.{refusal, filed, answered, mostText, tooLong, outRoom, made};
 use blaming::bad_line;
 use blaming::begin;
 use blaming::line_count;
@@ -73,9 +73,10 @@ fn step_room() -> [u8; 6156]
     [0; 6156]
 }
 
+// All that is printed of the text.
 pub fn tell(text: &[u8], out: &mut [u8]) -> usize
     requires { ⌜ outRoom ≤ length (now out) ⌝ }
-    ensures { λ r. ⌜ Tells (now (out .exit)) r (madeOver (now (out .entry)) (now (text .entry))) ⌝ }
+    ensures { λ r. ⌜ Tells (now (out .exit)) r (made (now (text .entry))) ⌝ }
 {
     if text.len() > 262144 {
         return too_long(text, out);

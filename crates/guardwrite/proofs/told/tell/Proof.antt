@@ -5,10 +5,10 @@ use Rattle.guardwrite.proofs.told.tell.Statement.{statement}
 use Rattle.guardwrite.proofs.told.tell.Tie as tie
 
 returns : tie.Need-returns
-returns c = let a = c .before .before .before .before .before .before .before .args in instead (c .before .before .too-long .ensures) (made-long (a .out .now) (a .text .now) (c .before .before .before .before .if1 .taken))
+returns c = let s = c .before .before .before .before .before .before .before in instead (c .before .before .too-long .ensures) (made-long (s .args .out .now) (s .args .text .now) (s .pre) (c .before .before .before .before .if1 .taken))
 
 returns-2 : tie.Need-returns-2
-returns-2 c = let a = c .before .before .before .before .before .before .before .before .before .before .before .before .before .args in instead (c .before .before .before .before .fill .ensures) (made-short (a .out .now) (a .text .now) (c .before .before .before .before .before .before .before .before .before .before .if1 .left))
+returns-2 c = let s = c .before .before .before .before .before .before .before .before .before .before .before .before .before in instead (c .before .before .before .before .fill .ensures) (made-short (s .args .out .now) (s .args .text .now) (s .pre) (c .before .before .before .before .before .before .before .before .before .before .if1 .left))
 
 pub tell-spec : {M : Type 1} → statement M
 tell-spec =
