@@ -22,7 +22,7 @@ from pathlib import Path
 from mutations import mutants_of, mutated
 
 ROOT = Path(__file__).resolve().parent.parent
-PROGRAMS = ["guardrun", "trials"]
+PROGRAMS = sorted(p.parent.parent.name for p in (ROOT / "crates").glob("*/src/main.rt"))
 COSTLY = ["turning", "leaves", "calling", "moves", "guard", "fretmere", "fitting"]  # these get only the least number
 LEAST = 4
 COLUMNS = "crate file line column old new kind verdict by seconds error".split()
@@ -36,9 +36,12 @@ Verdict = namedtuple("Verdict", "verdict by error")
 
 
 def dependencies():
-    """The crates in the order of crates.txt, each with those that it depends on."""
+    """The crates in the order of crates.txt, each with those that it depends on, through others too."""
     lines = (line.split("#")[0].partition(":") for line in (ROOT / "crates.txt").read_text().splitlines())
-    return {name.strip(): deps.split() for name, mark, deps in lines if mark}
+    named, reached = {name.strip(): deps.split() for name, mark, deps in lines if mark}, {}
+    for name, deps in named.items():
+        reached[name] = set(deps).union(*(reached.get(d, ()) for d in deps))
+    return reached
 
 
 # ---- the draw

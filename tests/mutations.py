@@ -13,7 +13,7 @@ FAMILIES = ["&& ||", "+ - *", "/ %", "< ≤", "ltb leb eqb", "bitAnd bitOr bitXo
 OPERATORS = ["== !=", "< <=", "> >=", "&& ||", "| &", "^ |", "+ -", "* +", "/ %", "<< >>", "+= -=", "true false"]
 OPENING, CLOSING = "([{", ")]}"
 ANTT = re.compile(r"--[^\n]*|[(){}\[\];,]|[^\s(){}\[\];,]+")
-CODE = re.compile(r"//[^\n]*|⌜[^⌝]*⌝|[A-Za-z_]\w*|\d\w*|'[a-z]\w*|=>|->|::|\.\.|&&|\|\||<<|>>|[<>=!+*/%&|^-]=|\S")
+CODE = re.compile(r"//[^\n]*|⌜[^⌝]*⌝|b?\"(?:\\.|[^\"\\])*\"|[A-Za-z_]\w*|\d\w*|'[a-z]\w*|=>|->|::|\.\.|&&|\|\||<<|>>|[<>=!+*/%&|^-]=|\S")
 USE = re.compile(r"^(?:ghost )?use ([^\s{]+)\.\{([^}]*)\}", re.M)
 OURS = re.compile(r"Rattle·(\w+)(?:·specs)?\.specs\.(\w+)$")
 
