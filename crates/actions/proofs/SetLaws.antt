@@ -11,7 +11,7 @@ use borrow.Author.Tests.{leb-true, leb-false, lt-leb, le-leb, eq-eqb, ne-eqb, lt
 use lib.Arith.{bin-ind}
 use lib.Pow.{pow-pos, pow-lt, pow-add, shr-shr, shr-lt}
 use lib.Dec.{T, leb, eqb, ltb, eqb→eq, eqb-refl, T-not, not-T}
-use lib.Bits.{bitAnd, bitOr, bitXor, and-shr, and-mod, and-le-l, or-shr, or-mod, or-lt, or-zero-r, xor-shr, xor-mod, xor-lt}
+use lib.Bits.{bitAnd, bitOr, bitXor, and-shr, and-mod, and-le-l, or-shr, or-mod, or-lt, or-zero-r, xor-shr, xor-mod}
 use Rattle.actions.proofs.Tests.{of-yes, no-of, and-intro, and-left, and-right, or-left, or-right, or-cases, not-false, twice, twice-back, both}
 use Rattle.actions.specs.Sets.{ActionSet, isAction, has, EMPTY, single, union, common, difference, isEmpty, within, meets}
 
@@ -216,10 +216,6 @@ union-bound s t h k = or-lt 64 s t h k
 pub common-bound : (s t : ActionSet) → s < 2 ^ 64 → common s t < 2 ^ 64
 unfolding common
 common-bound s t h = lt-of-le-of-lt (and-le-l s t) h
-
-pub difference-bound : (s t : ActionSet) → s < 2 ^ 64 → difference s t < 2 ^ 64
-unfolding difference common
-difference-bound s t h = xor-lt 64 s (bitAnd s t) h (common-bound s t h)
 
 -- ---- a set is known by its members
 

@@ -1,6 +1,6 @@
 // The action sets, and each operation on them against its definition in specs/Sets, for all arguments.
 ghost use mathlib.Core.Path.{_≡_};
-ghost use Rattle.actions.specs.Sets.{EMPTY, single, union, common, difference, has, isEmpty, within, meets};
+ghost use Rattle.actions.specs.Sets.{single, union, common, difference, has, isEmpty, within, meets};
 
 pub struct ActionSet {
     pub bits: u64,

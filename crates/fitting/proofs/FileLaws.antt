@@ -1,26 +1,25 @@
 -- The nodes of a passed policy, from what the code reads of their records. Assumes nothing.
 use Prim.Native.Nat.{ℕ, _+_, _-_, _*_, _≤_, _<_}
 use native.Mathlib.Omega.{arith}
-use mathlib.Core.Path.{_≡_, sym, ap, _∙_, subst}
+use mathlib.Core.Path.{_≡_, sym, ap, _∙_}
 use mathlib.Core.Bool.{false, _&&_}
-use mathlib.Core.List.{List, map}
+use mathlib.Core.List.{List}
 use lib.Dec.{eqb, leb}
 use lib.ListN.{length, getD, List·getD-eq-default}
 use Rattle.policy.specs.Bytes.{Bytes, number}
-use Rattle.policy.specs.Lists.{summed}
-use Rattle.policy.specs.Records.{nodeSize, Node, nodeCount, stepCount, nodeAt, nodePlace, nodes}
+use Rattle.policy.specs.Records.{nodeSize, Node, nodeCount, stepCount, nodeAt, nodePlace}
 use Rattle.policy.specs.Steps.{Step, halt, isNext}
-use Rattle.policy.specs.Tree.{Way, Join, NodeKind, aLeaf, aTrivial, anUnsatisfiable, aPair, noNode, nodeKind, owned, places, leaf, trivial, unsatisfiable, node}
+use Rattle.policy.specs.Tree.{Way, Join, NodeKind, aLeaf, aTrivial, anUnsatisfiable, aPair, noNode, nodeKind, firstStep, places, leaf, trivial, unsatisfiable, node}
 use Rattle.rules.specs.Passed.{Passed}
-use Rattle.rules.proofs.Grown.{placeIn, nodeIn, shaped}
-use Rattle.rules.proofs.Numbers.{tree-at, node-in, ChildrenLater, children-later}
+use Rattle.rules.proofs.Grown.{placeIn, shaped}
+use Rattle.rules.proofs.Numbers.{ChildrenLater, node-read, tree-read, children-read}
+use Rattle.rules.proofs.Rows.{all-owned}
 use Rattle.policy.specs.Tree.{treeAt}
 use Rattle.records.specs.Frame.{Framed}
 use Rattle.records.proofs.Frame.{framed, node-inside}
 use Rattle.reading.specs.Code.{codeAt}
 use Rattle.reading.proofs.CodeLaws.{code-length, code-at, next-kind}
-use Rattle.surveying.specs.First.{firstStep}
-use Rattle.surveying.proofs.LeafLaws.{sum-is, leaf-place, inside-here, Counted, counted}
+use Rattle.surveying.proofs.LeafLaws.{code-is, inside-here, Counted, counted}
 use Rattle.turns.specs.Saved.{offsetAt, counterAt, waitsAt}
 
 -- ---- a leaf that waits
@@ -48,9 +47,6 @@ module _ {file : Bytes} (ok : Passed file) where
   pub frame : Framed file (nodeCount file) (stepCount file)
   frame = framed file (ok .kept3)
 
-  pub all-steps : summed (map owned (nodes file)) ≡ stepCount file
-  all-steps = sum-is frame (ok .kept6)
-
   -- node i, whose record begins at `place`
   module _ (i place : ℕ) (h : i < nodeCount file) (p : place ≡ nodePlace i) where
     abbrev x : Node
@@ -59,36 +55,29 @@ module _ {file : Bytes} (ok : Passed file) where
     pub inside : place + nodeSize ≤ length file
     inside = omega (arith, node-inside frame i h)
 
-    same : nodeIn (places file) i ≡ x
-    same = node-in file i h ∙ ap (nodeAt file) (sym p)
-
-    shape : (k : NodeKind) → k ≡ nodeKind (x .kind) → treeAt file i ≡ shaped k i (placeIn (places file) i) (treeAt file (x .left)) (treeAt file (x .right))
-    shape k e =
-        tree-at file (ok .kept5) i h
-        ∙ λ j. shaped ((ap (λ (y : Node). nodeKind (y .kind)) same ∙ sym e) j) i (placeIn (places file) i) (treeAt file (same j .left)) (treeAt file (same j .right))
+    shape : {k : NodeKind} → k ≡ nodeKind (x .kind) → treeAt file i ≡ shaped k i (placeIn (places file) i) (treeAt file (x .left)) (treeAt file (x .right))
+    shape e = tree-read file h p (ok .kept5) (sym e)
 
     pub is-trivial : aTrivial ≡ nodeKind (x .kind) → treeAt file i ≡ trivial i
     unfolding shaped
-    is-trivial e = shape aTrivial e
+    is-trivial e = shape e
 
     -- rule 4 knows no such node
     pub is-none : noNode ≡ nodeKind (x .kind) → treeAt file i ≡ trivial i
     unfolding shaped
-    is-none e = shape noNode e
+    is-none e = shape e
 
     pub is-unsatisfiable : anUnsatisfiable ≡ nodeKind (x .kind) → treeAt file i ≡ unsatisfiable i
     unfolding shaped
-    is-unsatisfiable e = shape anUnsatisfiable e
+    is-unsatisfiable e = shape e
 
     pub is-pair : (w : Way) (j : Join) (left right : ℕ) → aPair w j ≡ nodeKind (x .kind) → left ≡ x .left → right ≡ x .right
         → treeAt file i ≡ node w j i (treeAt file left) (treeAt file right)
     unfolding shaped
-    is-pair w j left right e l r = shape (aPair w j) e ∙ λ k. node w j i (treeAt file (sym l k)) (treeAt file (sym r k))
+    is-pair w j left right e l r = shape e ∙ λ k. node w j i (treeAt file (sym l k)) (treeAt file (sym r k))
 
     pub pair-later : (w : Way) (j : Join) → aPair w j ≡ nodeKind (x .kind) → ChildrenLater (nodeCount file) i x
-    pair-later w j e =
-        subst (λ (y : Node). ChildrenLater (nodeCount file) i y) same
-        (children-later file (ok .kept5) i w j (ap (λ (y : Node). nodeKind (y .kind)) same ∙ sym e))
+    pair-later w j e = children-read file h p (ok .kept5) (sym e)
 
     module _ (count : ℕ) (c : count ≡ x .count) where
       pub counts : Counted file i count
@@ -97,15 +86,13 @@ module _ {file : Bytes} (ok : Passed file) where
       -- with its steps from `at` on
       module _ (at : ℕ) (a : at ≡ 6 + 16 * nodeCount file + 12 * firstStep file i) where
         pub steps-inside : at + 12 * count ≤ length file
-        steps-inside = inside-here frame (ok .kept4) all-steps i place at count h p a c
+        steps-inside = inside-here frame (ok .kept4) (all-owned file (ok .kept6)) i place at count h p a c
 
         pub is-leaf : (start : ℕ) → aLeaf ≡ nodeKind (x .kind) → start ≡ x .start → treeAt file i ≡ leaf i (x .set) start (codeAt file at count)
         unfolding shaped
         is-leaf start e s =
-            let k : nodeKind (nodeAt file (nodePlace i) .kind) ≡ aLeaf = ap (λ (q : ℕ). nodeKind (nodeAt file q .kind)) (sym p) ∙ sym e in
-            let code : placeIn (places file) i .steps ≡ codeAt file at count =
-            leaf-place frame all-steps i h k ∙ λ j. codeAt file (sym a j) ((ap (λ (q : ℕ). nodeAt file q .count) (sym p) ∙ sym c) j) in
-            shape aLeaf e ∙ λ j. leaf i (same j .set) ((ap (λ (y : Node). y .start) same ∙ sym s) j) (code j)
+            let code : placeIn (places file) i .steps ≡ codeAt file at count = sym (code-is frame (ok .kept4) (all-owned file (ok .kept6)) i place at count h p a c) in
+            let same = node-read file h p in shape e ∙ λ j. leaf i (same j .set) ((ap (λ (y : Node). y .start) same ∙ sym s) j) (code j)
 
   -- from where the steps of node i begin back to where those of the node before it do
   pub step-back : (i place count : ℕ) → 1 ≤ i → i ≤ nodeCount file → place ≡ nodePlace (i - 1) → count ≡ nodeAt file place .count

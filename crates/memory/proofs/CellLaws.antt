@@ -83,10 +83,6 @@ module _ (ws : Bytes) (i : ℕ) (x : Cell) (room : 5 * i + 5 ≤ length ws) wher
   unfolding w3
   w4 = set w3 (5 * i + 3) (x .fed)
 
-  size4 : length w4 ≡ length ws
-  unfolding w1 w2 w3 w4
-  size4 = simp length-set
-
   worked-stage : number (worked ws i x) (5 * i) 1 ≡ x .stage
   unfolding worked w1 w2 w3 w4
   worked-stage =

@@ -152,12 +152,6 @@ module _ {n : ℕ} {l r : Tree} (sd : Numbered n l r) where
     pub held-r : held r m′ ≡ held r m
     held-r = held-same r m m′ (λ i e. kl i (not-left-of-right i e))
 
-    pub rest-r : rest r m′ ≡ rest r m
-    rest-r = rest-same r m m′ (λ i e. kl i (not-left-of-right i e))
-
-    pub own-of-r : m′ (numberOf r) ≡ m (numberOf r)
-    own-of-r = kl (numberOf r) (not-left-of-right (numberOf r) (own-number r))
-
   -- where only the right side's have
   module _ {m m′ : Mem} (kr : Kept r m m′) where
     pub own-r : m′ n ≡ m n
@@ -179,6 +173,3 @@ module _ {n : ℕ} {l r : Tree} (sd : Numbered n l r) where
 
     pub rest-l-own : rest l m′ ≡ rest l m
     rest-l-own = rest-same l m m′ (λ i e. o i (held-apart l e (sd .not-left)))
-
-    pub rest-r-own : rest r m′ ≡ rest r m
-    rest-r-own = rest-same r m m′ (λ i e. o i (held-apart r e (sd .not-right)))

@@ -58,9 +58,6 @@ module _ (t : Tree) (m : Mem) (e0 : m (numberOf t) .stage ≡ 0) where
   pub begun-not : askedIn (regulated t) (m (numberOf t) .ph) (m (numberOf t)) ≡ false → Begun t m m false
   begun-not e = record { begins = not-asked e; kept = λ i o. refl }
 
-  pub went-not : askedIn (regulated t) (m (numberOf t) .ph) (m (numberOf t)) ≡ false → Went t m m 0 (Done false)
-  went-not e = record { gives = not-asked e; kept = λ i o. refl }
-
 -- a phase that has begun
 pub begun-already : (t : Tree) (m : Mem) → (m (numberOf t) .stage ≡ 0 → ⊥) → Begun t m m true
 begun-already t m ne = record { begins = (refl, ne); kept = λ i o. refl }

@@ -1,6 +1,5 @@
 // What a node does at the end of a side's phase: it reads its status, sets its stage, and tells a side to begin.
 ghost use mathlib.Core.Path.{_≡_};
-ghost use mathlib.Core.Bool.{true, false};
 ghost use Prim.Native.Nat.{_<_};
 ghost use lib.ListN.{length};
 ghost use Rattle.turns.specs.Status.{statusOf};

@@ -1,13 +1,13 @@
 -- Laws of bytes: what is read of bytes that were put, and numbers spelt and read back. Assumes nothing.
 use Prim.Native.Nat.{ℕ, zero, suc, _+_, _-_, _*_, _/_, _%_, _^_, _≤_, _<_}
-use native.Mathlib.Nat.{one-le-pow, zero-lt-suc, pow-succ', mod-eq-of-lt, mod-lt, mod-one, add-mul, mul-assoc, add-assoc, mul-add-mod-self-right}
+use native.Mathlib.Nat.{one-le-pow, zero-lt-suc, pow-succ', mod-eq-of-lt, mod-one, add-mul, mul-assoc, add-assoc, mul-add-mod-self-right}
 use native.Mathlib.Omega.{arith}
-use mathlib.Core.Path.{_≡_, refl, sym, ap, ap₂, _∙_}
+use mathlib.Core.Path.{_≡_, refl, sym, ap, ap₂, _∙_, subst}
 use mathlib.Core.List.{List, [], _∷_, _++_, append-assoc}
 use lib.Arith.{digits-lt, digits-div, mod-mul}
 use lib.Dec.{T, eqb, eqb→eq}
 use lib.ListN.{length, replicate, take, drop, set, getD, length-append, length-take, length-drop, take-append-drop}
-use lib.Seq.{getD-drop, take-append-le, drop-append-le, drop-append-add, drop-at, drop-drop, length-take-le, set-comm, sets, sets-eq}
+use lib.Seq.{getD-drop, take-append-le, drop-append-le, drop-append-add, drop-at, drop-drop, length-take-le, sets, sets-eq}
 use Rattle.actions.proofs.Tests.{and-left, and-right}
 use Rattle.policy.specs.Lists.{every}
 use Rattle.policy.proofs.ListLaws.{every-take, every-drop}
@@ -69,21 +69,6 @@ part-inside bs i over k size h b =
     ∙ ap (λ (zs : Bytes). take size zs) (drop-append-add (take i bs) (over ++ drop (i + length over) bs) k)
     ∙ part-front over (drop (i + length over) bs) k size b
 
-pub number-before : (bs : Bytes) (i : ℕ) (over : Bytes) (j size : ℕ) → i + length over ≤ length bs → j + size ≤ i
-    → number (put bs i over) j size ≡ number bs j size
-unfolding number
-number-before bs i over j size h b = ap (spelt 0) (part-before bs i over j size h b)
-
-pub number-after : (bs : Bytes) (i : ℕ) (over : Bytes) (j size : ℕ) → i + length over ≤ length bs → i + length over ≤ j
-    → number (put bs i over) j size ≡ number bs j size
-unfolding number
-number-after bs i over j size h b = ap (λ (zs : Bytes). spelt 0 (take size zs)) (drop-after bs i over j h b)
-
-pub number-inside : (bs : Bytes) (i : ℕ) (over : Bytes) (k size : ℕ) → i + length over ≤ length bs → k + size ≤ length over
-    → number (put bs i over) (i + k) size ≡ number over k size
-unfolding number
-number-inside bs i over k size h b = ap (spelt 0) (part-inside bs i over k size h b)
-
 -- a number in a part
 pub number-part : (bs : Bytes) (i n k size : ℕ) → k + size ≤ n → i + n ≤ length bs → number (take n (drop i bs)) k size ≡ number bs (i + k) size
 unfolding number
@@ -95,7 +80,7 @@ unfolding put
 put-sets bs i over h = sym (append-assoc (take i bs) over (drop (i + length over) bs)) ∙ sym (sets-eq over bs i h)
 
 -- bytes put after bytes
-sets-append : (l : Bytes) (i : ℕ) (xs ys : Bytes) → sets (sets l i xs) (i + length xs) ys ≡ sets l i (xs ++ ys)
+pub sets-append : (l : Bytes) (i : ℕ) (xs ys : Bytes) → sets (sets l i xs) (i + length xs) ys ≡ sets l i (xs ++ ys)
 sets-append l i [] ys = let e : i + 0 ≡ i = omega arith in ap (λ (k : ℕ). sets l k ys) e
 sets-append l i (x ∷ xs) ys =
     let e : i + suc (length xs) ≡ suc i + length xs = omega arith in
@@ -111,26 +96,6 @@ put-append bs i xs j ys e h =
     ∙ sets-append bs i xs ys
     ∙ sym (put-sets bs i (xs ++ ys) (rw length-append (omega arith)))
 
--- two runs that do not meet, in either order
-set-sets : (l : Bytes) (i a j : ℕ) (ys : Bytes) → i < j → sets (set l i a) j ys ≡ set (sets l j ys) i a
-set-sets l i a j [] h = refl
-set-sets l i a j (y ∷ ys) h =
-    let d : i ≡ j → ⊥ = λ e. omega arith in
-    ap (λ (m : Bytes). sets m (suc j) ys) (set-comm l i j a y d) ∙ set-sets (set l j y) i a (suc j) ys (omega arith)
-
-sets-sets : (l : Bytes) (i : ℕ) (xs : Bytes) (j : ℕ) (ys : Bytes) → i + length xs ≤ j → sets (sets l i xs) j ys ≡ sets (sets l j ys) i xs
-sets-sets l i [] j ys h = refl
-sets-sets l i (x ∷ xs) j ys h =
-    sets-sets (set l i x) (suc i) xs j ys (omega arith) ∙ ap (λ (m : Bytes). sets m (suc i) xs) (set-sets l i x j ys (omega arith))
-
-pub put-put : (bs : Bytes) (i : ℕ) (xs : Bytes) (j : ℕ) (ys : Bytes) → i + length xs ≤ j → j + length ys ≤ length bs
-    → put (put bs i xs) j ys ≡ put (put bs j ys) i xs
-put-put bs i xs j ys h f =
-    let g : i + length xs ≤ length bs = omega arith in
-    put-sets (put bs i xs) j ys (rw put-length f) ∙ ap (λ (m : Bytes). sets m j ys) (put-sets bs i xs g)
-    ∙ sets-sets bs i xs j ys h
-    ∙ sym (put-sets (put bs j ys) i xs (rw put-length g) ∙ ap (λ (m : Bytes). sets m i xs) (put-sets bs j ys f))
-
 -- ---- bytes that are bytes
 
 abbrev pub Small : Bytes → Type 0
@@ -143,10 +108,6 @@ small-cons : (b : ℕ) (bs : Bytes) → b < 256 → Small bs → Small (b ∷ bs
 small-cons b bs h k zero = h
 small-cons b bs h k (suc i) = k i
 
-pub small-append : (xs ys : Bytes) → Small xs → Small ys → Small (xs ++ ys)
-small-append [] ys h k = k
-small-append (x ∷ xs) ys h k = small-cons x (xs ++ ys) (h 0) (small-append xs ys (λ i. h (suc i)) k)
-
 pub small-take : (n : ℕ) (bs : Bytes) → Small bs → Small (take n bs)
 small-take zero bs h = small-nil
 small-take (suc n) [] h = h
@@ -154,19 +115,6 @@ small-take (suc n) (b ∷ bs) h = small-cons b (take n bs) (h 0) (small-take n b
 
 pub small-drop : (n : ℕ) (bs : Bytes) → Small bs → Small (drop n bs)
 small-drop n bs h i = rw getD-drop (h (n + i))
-
-pub put-small : (bs : Bytes) (i : ℕ) (over : Bytes) → Small bs → Small over → Small (put bs i over)
-unfolding put
-put-small bs i over h k = small-append (take i bs) (over ++ drop (i + length over) bs) (small-take i bs h) (small-append over (drop (i + length over) bs) k (small-drop (i + length over) bs h))
-
-pub spell-small : (k n : ℕ) → Small (spell k n)
-unfolding spell
-spell-small zero n = small-nil
-spell-small (suc k) n = small-cons (n / 256 ^ k % 256) (spell k n) (mod-lt (n / 256 ^ k) (zero-lt-suc 255)) (spell-small k n)
-
-pub zeros-small : (n : ℕ) → Small (replicate n 0)
-zeros-small zero = small-nil
-zeros-small (suc n) = small-cons 0 (replicate n 0) (omega arith) (zeros-small n)
 
 -- ---- numbers
 
@@ -211,6 +159,12 @@ spelt-less [] small = unfold spelt in omega arith
 spelt-less (b ∷ bs) small =
     let s : spelt 0 bs < 256 ^ length bs = spelt-less bs (λ i. small (suc i)) in
     rw (pow-succ', spelt-head b bs, spelt-from b bs) (digits-lt (small 0) s)
+
+pub number-less : (bs : Bytes) (i size : ℕ) → Small bs → i + size ≤ length bs → number bs i size < 256 ^ size
+unfolding number
+number-less bs i size small h =
+    let e : length (take size (drop i bs)) ≡ size = length-take-le size (drop i bs) (simp length-drop (omega arith)) in
+    subst (λ (n : ℕ). spelt 0 (take size (drop i bs)) < 256 ^ n) e (spelt-less (take size (drop i bs)) (small-take size (drop i bs) (small-drop i bs small)))
 
 -- a number that was spelt, read again after n
 pub spelt-spell : (n k m : ℕ) → spelt n (spell k m) ≡ n * 256 ^ k + m % 256 ^ k

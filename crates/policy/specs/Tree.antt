@@ -4,6 +4,7 @@ use mathlib.Core.List.{List, [], _∷_, map}
 use lib.ListN.{getD, take, drop}
 use Rattle.actions.specs.Sets.{ActionSet, EMPTY, union}
 use Rattle.policy.specs.Bytes.{Bytes}
+use Rattle.policy.specs.Lists.{summed}
 use Rattle.policy.specs.Records.{Node, nodeCount, nodes, rows}
 use Rattle.policy.specs.Steps.{Step, stepOf}
 
@@ -31,6 +32,10 @@ owned x = elim (nodeKind (x .kind)) [
   | noNode ↦ 0
   | aPair w j ↦ 0
 ]
+
+-- so the steps of node i begin after those that the nodes before it own
+unfoldable pub firstStep : Bytes → ℕ → ℕ
+firstStep file i = summed (map owned (take i (nodes file)))
 
 -- A node beside the steps that it owns.
 pub record Place : Type 0 where

@@ -1,14 +1,20 @@
--- A leaf's steps by where they lie: how many they are, which one stands at an offset, and that its kind byte tells a next. Assumes nothing.
-use Prim.Native.Nat.{ℕ, zero, suc, _+_, _*_, _<_}
+-- A leaf's steps by where they lie: how many they are, which one stands at an offset, that its kind byte tells a next, and that a
+-- node's steps are those from its first on. Assumes nothing.
+use Prim.Native.Nat.{ℕ, zero, suc, _+_, _*_, _≤_, _<_}
 use native.Mathlib.Omega.{arith}
 use mathlib.Core.Path.{_≡_, refl, sym, ap, _∙_}
+use mathlib.Core.List.{List, map}
 use lib.Dec.{eqb}
-use lib.ListN.{length, getD}
+use lib.ListN.{length, getD, take, drop, length-drop}
+use lib.Seq.{length-take-le, getD-take, getD-drop, ext-getD}
 use borrow.Author.Tests.{ne-eqb}
 use Rattle.policy.specs.Bytes.{Bytes, number}
-use Rattle.policy.specs.Records.{rowAt}
-use Rattle.policy.specs.Steps.{halt, stepOf, isNext}
-use Rattle.policy.proofs.ListLaws.{listed-length, listed-at}
+use Rattle.policy.specs.Lists.{listed, summed}
+use Rattle.policy.specs.Records.{nodeAt, nodePlace, nodeCount, stepCount, nodes, rowAt, rowPlace, rows}
+use Rattle.policy.specs.Steps.{Step, halt, stepOf, isNext}
+use Rattle.policy.specs.Tree.{owned, firstStep, noPlace, places}
+use Rattle.policy.proofs.ListLaws.{listed-length, listed-at, map-listed}
+use Rattle.policy.proofs.NodeLaws.{first-in, steps-of}
 use Rattle.reading.specs.Code.{codeAt}
 
 module _ (file : Bytes) (at count : ℕ) where
@@ -40,3 +46,35 @@ kind-next (suc (suc (suc (suc (suc (suc (suc (suc (suc k))))))))) a f s o = sym 
 pub next-kind : (file : Bytes) (at : ℕ) → isNext (stepOf (rowAt file at)) ≡ eqb (number file at 1) 1
 unfolding rowAt
 next-kind file at = kind-next (number file at 1) (number file (at + 1) 1) (number file (at + 2) 1) (number file (at + 3) 1) (number file (at + 4) 8)
+
+-- ---- a run of the file's steps
+
+module _ (file : Bytes) (first count : ℕ) (h : first + count ≤ stepCount file) where
+  abbrev stepNo : ℕ → Step
+  stepNo k = stepOf (rowAt file (rowPlace file k))
+
+  abbrev run : List Step
+  run = take count (drop first (listed stepNo 0 (stepCount file)))
+
+  run-length : length run ≡ count
+  run-length =
+      length-take-le count (drop first (listed stepNo 0 (stepCount file)))
+      (omega (arith, length-drop first (listed stepNo 0 (stepCount file)), listed-length stepNo 0 (stepCount file)))
+
+  run-at : (o : ℕ) → o < count → getD run o halt ≡ getD (codeAt file (rowPlace file first) count) o halt
+  unfolding rowPlace
+  run-at o l =
+      let z : rowPlace file (0 + (first + o)) ≡ rowPlace file first + 12 * o = omega arith in
+      getD-take count (drop first (listed stepNo 0 (stepCount file))) o halt l ∙ getD-drop first (listed stepNo 0 (stepCount file)) o halt
+      ∙ listed-at stepNo 0 (stepCount file) halt (first + o) (omega arith)
+      ∙ ap (λ (k : ℕ). stepOf (rowAt file k)) z ∙ sym (code-at file (rowPlace file first) count o l)
+
+  run-code : take count (drop first (map stepOf (rows file))) ≡ codeAt file (rowPlace file first) count
+  unfolding rows
+  run-code =
+      ap (λ (ss : List Step). take count (drop first ss)) (map-listed stepOf (λ k. rowAt file (rowPlace file k)) 0 (stepCount file))
+      ∙ ext-getD halt run (codeAt file (rowPlace file first) count) (run-length ∙ sym (code-length file (rowPlace file first) count)) (λ o l. run-at o (omega (arith, run-length)))
+
+pub node-code : (file : Bytes) → summed (map owned (nodes file)) ≡ stepCount file → (i : ℕ) → i < nodeCount file
+    → getD (places file) i noPlace .steps ≡ codeAt file (rowPlace file (firstStep file i)) (owned (nodeAt file (nodePlace i)))
+node-code file all i h = steps-of file i h ∙ run-code file (firstStep file i) (owned (nodeAt file (nodePlace i))) (omega (arith, first-in file i h))

@@ -1,4 +1,4 @@
--- What a framed file gives: its counts, that every record lies inside it, and its lists of records by the two counts. Assumes nothing.
+-- What a framed file gives: its counts, where its records lie, and its lists of records by the two counts. Assumes nothing.
 use Prim.Native.Nat.{ℕ, _+_, _*_, _≤_, _<_}
 use native.Mathlib.Omega.{arith}
 use mathlib.Core.Path.{_≡_, refl, sym, ap, _∙_}
@@ -6,7 +6,7 @@ use mathlib.Core.Bool.{false}
 use lib.ListN.{length}
 use Rattle.policy.specs.Bytes.{Bytes}
 use Rattle.policy.specs.Lists.{listed}
-use Rattle.policy.specs.Records.{nodeSize, stepSize, nodeCount, stepCount, nodeAt, rowAt, nodePlace, rowPlace, nodes, rows}
+use Rattle.policy.specs.Records.{nodeSize, nodeCount, stepCount, nodeAt, rowAt, nodePlace, rowPlace, nodes, rows}
 use Rattle.rules.specs.Layout.{broken3}
 use Rattle.rules.proofs.Rows.{CountsFit, counts-fit}
 use Rattle.records.specs.Frame.{Framed}
@@ -26,9 +26,6 @@ module _ {file : Bytes} {n m : ℕ} (f : Framed file n m) where
   pub node-inside : (i : ℕ) → i < n → nodePlace i + nodeSize ≤ length file
   unfolding nodePlace
   node-inside i h = omega arith
-
-  pub row-inside : (i : ℕ) → i < m → 6 + 16 * n + 12 * i + stepSize ≤ length file
-  row-inside i h = omega arith
 
   pub row-place : (i : ℕ) → rowPlace file i ≡ 6 + 16 * n + 12 * i
   unfolding rowPlace nodePlace

@@ -9,7 +9,7 @@ use Rattle.actions.proofs.Tests.{and-left, and-right, not-not, or-false-right}
 use Rattle.policy.specs.Bytes.{Bytes}
 use Rattle.policy.specs.Lists.{summed, every}
 use Rattle.policy.specs.Records.{nodeCount, stepCount, nodes}
-use Rattle.policy.specs.Tree.{Way, parallel, sequential, Join, owned, places, Tree, leaf, trivial, unsatisfiable, node, regulated, tree}
+use Rattle.policy.specs.Tree.{Way, parallel, sequential, Join, owned, places, Tree, leaf, trivial, unsatisfiable, node, regulated, grown, tree}
 use Rattle.rules.specs.Leaves.{everyLeaf}
 use Rattle.rules.specs.Targets.{targetsFit, broken6}
 use Rattle.rules.specs.Modes.{modesFit, broken7}
@@ -93,13 +93,13 @@ module _ (file : Bytes) (passed : Passed file) where
       grown-leaves (places file) (λ i s c code. (1 ≤ length code) × (length code ≤ 64))
       (λ i e. (leaf-steps file (passed .kept4) (passed .kept6) i e .some, leaf-steps file (passed .kept4) (passed .kept6) i e .few)) (nodeCount file) 0
 
-  lawful-leaves : EachLeaf (λ i s c code. LawfulLeaf s code) (tree file)
-  unfolding tree
+  pub lawful-leaves : (fuel i : ℕ) → EachLeaf (λ i s c code. LawfulLeaf s code) (grown fuel (places file) i)
   lawful-leaves =
       grown-leaves (places file) (λ i s c code. LawfulLeaf s code) (λ i e.
       lawful-leaf (nodeIn (places file) i .set) (placeIn (places file) i .steps) (leaf-at targetsFit (places file) i targets-fit e)
       (leaf-at (λ r code. modesFit code) (places file) i modes-fit e)
-      (leaf-at (λ r code. every insFits code) (places file) i (ins-fit file (passed .kept4)) e)) (nodeCount file) 0
+      (leaf-at (λ r code. every insFits code) (places file) i (ins-fit file (passed .kept4)) e))
 
   pub lawful : Lawful (tree file)
-  lawful = lawful-parts (tree file) lawful-leaves sides-apart (distinct file (passed .kept5))
+  unfolding tree
+  lawful = lawful-parts (tree file) (lawful-leaves (nodeCount file) 0) sides-apart (distinct file (passed .kept5))

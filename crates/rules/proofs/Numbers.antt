@@ -1,5 +1,5 @@
--- Rule 5, the tree rule: every node's number is in the tree once and below the number of nodes, and the fuel of `tree` is enough.
--- Assumes nothing.
+-- Rule 5, the tree rule: every node's number is in the tree once and below the number of nodes, the fuel of `tree` is enough, and one step
+-- down the tree as the code reads the node's record. Assumes nothing.
 use Prim.Native.Nat.{ℕ, zero, suc, _+_, _-_, _≤_, _<_}
 use native.Mathlib.Nat.{le-refl, zero-lt-suc}
 use native.Mathlib.Omega.{arith}
@@ -10,7 +10,8 @@ use mathlib.Core.List.{List, [], _∷_, map}
 use lib.Dec.{T, eqb, eqb→eq, eqb-refl, ltb, ltb→lt}
 use lib.ListN.{length, getD, drop}
 use Rattle.actions.proofs.Tests.{yes-of, and-left, and-right, or-cases, bool-cases, no-of, not-not, or-false-left, or-false-right}
-use Rattle.policy.proofs.ListLaws.{listed-length, listed-at, everyAt-from-0}
+use Rattle.policy.proofs.ListLaws.{everyAt-from-0}
+use Rattle.policy.proofs.NodeLaws.{noN, nodes-length, node-of}
 use Rattle.policy.specs.Bytes.{Bytes}
 use Rattle.policy.specs.Lists.{one, occurs, everyAt}
 use Rattle.policy.specs.Records.{Node, nodeAt, nodePlace, nodeCount, nodes, rows}
@@ -21,10 +22,6 @@ use Rattle.rules.specs.Lawful.{holds, Disjoint, Numbered}
 use Rattle.rules.proofs.Grown.{placeIn, nodeIn, kindIn, shaped, shaped-same, grown-suc, grown-is}
 
 -- ---- how often n is a child
-
--- what stands past the nodes of a list
-abbrev pub noN : Node
-noN = noPlace .node
 
 -- how often n is a child of x
 unfoldable pub kids : ℕ → Node → ℕ
@@ -151,18 +148,13 @@ placed-node [] ss i = refl
 placed-node (x ∷ xs) ss zero = refl
 placed-node (x ∷ xs) ss (suc i) = placed-node xs (drop (owned x) ss) i
 
-pub nodes-length : (file : Bytes) → length (nodes file) ≡ nodeCount file
-unfolding nodes
-nodes-length file = listed-length (λ i. nodeAt file (nodePlace i)) 0 (nodeCount file)
-
 pub same-node : (file : Bytes) (i : ℕ) → nodeIn (places file) i ≡ getD (nodes file) i noN
 unfolding places
 same-node file i = placed-node (nodes file) (map stepOf (rows file)) i
 
 -- a place's node is the record that the file holds there
 pub node-in : (file : Bytes) (i : ℕ) → i < nodeCount file → nodeIn (places file) i ≡ nodeAt file (nodePlace i)
-unfolding nodes
-node-in file i h = same-node file i ∙ listed-at (λ i. nodeAt file (nodePlace i)) 0 (nodeCount file) noN i h ∙ ap (λ (k : ℕ). nodeAt file (nodePlace k)) (omega arith)
+node-in file i h = same-node file i ∙ node-of file i h
 
 -- past the list there are no nodes
 pub node-inside : (xs : List Node) (i : ℕ) → (nodeKind (getD xs i noN .kind) ≡ noNode → ⊥) → i < length xs
@@ -219,7 +211,7 @@ module _ (file : Bytes) (five : broken5 file ≡ false) where
       (everyAt-from-0 (later (nodeCount file)) (nodes file) noN all-later p (node-inside (nodes file) p (λ n. let z : _≡_ {A = ℕ} 0 1 = cc in omega arith)))
 
   -- "A child's number is greater than its parent's and less than n"
-  pub children-later : (i : ℕ) (w : Way) (j : Join) → kindIn (places file) i ≡ aPair w j → ChildrenLater (nodeCount file) i (nodeIn (places file) i)
+  children-later : (i : ℕ) (w : Way) (j : Join) → kindIn (places file) i ≡ aPair w j → ChildrenLater (nodeCount file) i (nodeIn (places file) i)
   children-later i w j e =
       subst (λ (x : Node). ChildrenLater (nodeCount file) i x) (sym (same-node file i))
       (nodes-later i w j (subst (λ (x : Node). nodeKind (x .kind) ≡ aPair w j) (same-node file i) e))
@@ -287,12 +279,13 @@ module _ (file : Bytes) (five : broken5 file ≡ false) where
       }
 
   -- Both sides of a pair hold other numbers than the pair and than each other.
-  pub numbered : (fuel i : ℕ) (w : Way) (j : Join) → kindIn (places file) i ≡ aPair w j
-      → Numbered i (grown fuel (places file) (nodeIn (places file) i .left)) (grown fuel (places file) (nodeIn (places file) i .right))
-  numbered fuel i w j e =
+  numbered : (i : ℕ) (w : Way) (j : Join) → kindIn (places file) i ≡ aPair w j
+      → Numbered i (treeAt file (nodeIn (places file) i .left)) (treeAt file (nodeIn (places file) i .right))
+  unfolding treeAt
+  numbered i w j e =
       let a : ℕ = nodeIn (places file) i .left in
       let b : ℕ = nodeIn (places file) i .right in
-      numbered-over i w j (grown fuel (places file) a) (grown fuel (places file) b) e (under fuel a) (under fuel b)
+      numbered-over i w j (treeAt file a) (treeAt file b) e (under (nodeCount file - a) a) (under (nodeCount file - b) b)
 
   -- the same of the whole tree
   pub distinct : Distinct (tree file)
@@ -354,6 +347,29 @@ module _ (file : Bytes) (five : broken5 file ≡ false) where
         grown-tree fuel a (children-later i w j e .left-below) (omega (arith, children-later i w j e .left-later)),
         grown-tree fuel b (children-later i w j e .right-below) (omega (arith, children-later i w j e .right-later)),
       ))
+
+-- ---- node i, as the code reads it: its record begins at `place`
+
+module _ (file : Bytes) {i place : ℕ} (h : i < nodeCount file) (p : place ≡ nodePlace i) where
+  abbrev x : Node
+  x = nodeAt file place
+
+  pub node-read : nodeIn (places file) i ≡ x
+  node-read = node-in file i h ∙ ap (nodeAt file) (sym p)
+
+  pub kind-read : {k : NodeKind} → nodeKind (x .kind) ≡ k → kindIn (places file) i ≡ k
+  kind-read e = ap (λ (y : Node). nodeKind (y .kind)) node-read ∙ e
+
+  module _ (five : broken5 file ≡ false) where
+    pub tree-read : {k : NodeKind} → nodeKind (x .kind) ≡ k → treeAt file i ≡ shaped k i (placeIn (places file) i) (treeAt file (x .left)) (treeAt file (x .right))
+    tree-read e =
+        tree-at file five i h ∙ λ j. shaped (kind-read e j) i (placeIn (places file) i) (treeAt file (node-read j .left)) (treeAt file (node-read j .right))
+
+    pub children-read : {w : Way} {j : Join} → nodeKind (x .kind) ≡ aPair w j → ChildrenLater (nodeCount file) i x
+    children-read {w} {j} e = subst (λ (y : Node). ChildrenLater (nodeCount file) i y) node-read (children-later file five i w j (kind-read e))
+
+    pub numbered-read : {w : Way} {j : Join} → nodeKind (x .kind) ≡ aPair w j → Numbered i (treeAt file (x .left)) (treeAt file (x .right))
+    numbered-read {w} {j} e = subst (λ (y : Node). Numbered i (treeAt file (y .left)) (treeAt file (y .right))) node-read (numbered file five i w j (kind-read e))
 
 -- `tree` is the one at node 0
 pub tree-top : (file : Bytes) → tree file ≡ treeAt file 0

@@ -1,7 +1,7 @@
 -- What rules 3, 4 and 6 give: the counts of the front, that every leaf's inserts are actions, and that every leaf has the steps that
 -- it counts, 1 to 64 of them.
 -- Assumes nothing.
-use Prim.Native.Nat.{ℕ, zero, suc, _≤_}
+use Prim.Native.Nat.{ℕ, zero, suc, _*_, _≤_}
 use native.Mathlib.Omega.{arith}
 use mathlib.Core.Path.{_≡_, refl, _∙_, ap, subst}
 use mathlib.Core.Bool.{Bool, false, _&&_, not}
@@ -13,16 +13,17 @@ use Rattle.actions.specs.Sets.{ActionSet, isAction, isEmpty}
 use Rattle.actions.proofs.Tests.{and-intro, and-left, and-right, not-not, or-false-left, or-false-right}
 use Rattle.policy.specs.Bytes.{Bytes}
 use Rattle.policy.specs.Lists.{summed, every}
-use Rattle.policy.specs.Records.{Node, Row, rowAt, rowPlace, mostNodes, mostSteps, nodeCount, stepCount, nodes, rows}
+use Rattle.policy.specs.Records.{Node, Row, frontSize, nodeSize, stepSize, mostNodes, mostSteps, rowAt, nodePlace, rowPlace, nodeCount, stepCount, nodes, rows, nodeBytes, stepBytes}
 use Rattle.policy.specs.Steps.{Step, stepOf}
 use Rattle.policy.specs.Tree.{NodeKind, aLeaf, aTrivial, anUnsatisfiable, aPair, noNode, nodeKind, owned, Place, noPlace, placed, places}
 use Rattle.policy.proofs.ListLaws.{listed-length, every-at, every-take, every-drop}
+use Rattle.policy.proofs.NodeLaws.{noN}
 use Rattle.rules.specs.Layout.{nodeFits, noSecond, noOperand, rowFits, broken3, broken4}
 use Rattle.rules.specs.Leaves.{everyLeaf}
 use Rattle.rules.specs.Targets.{targetsFit, broken6}
 use Rattle.rules.proofs.InsFits.{insFits}
 use Rattle.rules.proofs.Grown.{placeIn, nodeIn, kindIn}
-use Rattle.rules.proofs.Numbers.{noN, same-node, node-inside}
+use Rattle.rules.proofs.Numbers.{same-node, node-inside}
 
 -- ---- rule 3: the counts of the front
 
@@ -47,6 +48,16 @@ counts-fit file three =
       few-steps = leb→le (stepCount file) mostSteps (and-right (a && b) c u);
       long = eqb→eq (length file) (rowPlace file (stepCount file)) (not-not d (or-false-right (not (a && b && c)) (not d) three));
     }
+
+-- so long are its records
+module _ (file : Bytes) (f : CountsFit file) where
+  pub node-bytes-length : length (nodeBytes file) ≡ nodeSize * nodeCount file
+  unfolding nodeBytes rowPlace nodePlace
+  node-bytes-length = length-take-le (nodeSize * nodeCount file) (drop frontSize file) (simp length-drop (omega (arith, f .long)))
+
+  pub step-bytes-length : length (stepBytes file) ≡ stepSize * stepCount file
+  unfolding stepBytes rowPlace nodePlace
+  step-bytes-length = length-take-le (stepSize * stepCount file) (drop (nodePlace (nodeCount file)) file) (simp length-drop (omega (arith, f .long)))
 
 -- ---- a test of every leaf
 
@@ -148,23 +159,22 @@ pub leaf-owned : (x : Node) → nodeKind (x .kind) ≡ aLeaf → owned x ≡ x .
 unfolding owned
 leaf-owned x e = rw (e, owned)
 
-leaf-fits : (x : Node) → nodeKind (x .kind) ≡ aLeaf → T (nodeFits (nodeKind (x .kind)) x) → (1 ≤ x .count) × (x .count ≤ 64)
+pub leaf-fits : (x : Node) → T (nodeFits aLeaf x) → (1 ≤ x .count) × (x .count ≤ 64)
 unfolding nodeFits
-leaf-fits x e h =
+leaf-fits x h =
     let a : Bool = eqb (x .left) 0 && eqb (x .right) 0 in
-    let u : T (a && leb 1 (x .count) && leb (x .count) 64 && not (isEmpty (x .set))) = rw e at h in
-    let u₁ : T (a && leb 1 (x .count) && leb (x .count) 64) = and-left (a && leb 1 (x .count) && leb (x .count) 64) (not (isEmpty (x .set))) u in (
-      leb→le 1 (x .count) (and-right a (leb 1 (x .count)) (and-left (a && leb 1 (x .count)) (leb (x .count) 64) u₁)),
-      leb→le (x .count) 64 (and-right (a && leb 1 (x .count)) (leb (x .count) 64) u₁),
+    let u : T (a && leb 1 (x .count) && leb (x .count) 64) = and-left (a && leb 1 (x .count) && leb (x .count) 64) (not (isEmpty (x .set))) h in (
+      leb→le 1 (x .count) (and-right a (leb 1 (x .count)) (and-left (a && leb 1 (x .count)) (leb (x .count) 64) u)),
+      leb→le (x .count) 64 (and-right (a && leb 1 (x .count)) (leb (x .count) 64) u),
     )
 
-module _ (file : Bytes) (four : broken4 file ≡ false) (six : broken6 file ≡ false) where
-  pub all-owned : summed (map owned (nodes file)) ≡ stepCount file
-  unfolding broken6
-  all-owned =
-      eqb→eq (summed (map owned (nodes file))) (stepCount file) (not-not (eqb (summed (map owned (nodes file))) (stepCount file))
-      (or-false-left (not (eqb (summed (map owned (nodes file))) (stepCount file))) (not (everyLeaf targetsFit (places file))) six))
+pub all-owned : (file : Bytes) → broken6 file ≡ false → summed (map owned (nodes file)) ≡ stepCount file
+unfolding broken6
+all-owned file six =
+    eqb→eq (summed (map owned (nodes file))) (stepCount file) (not-not (eqb (summed (map owned (nodes file))) (stepCount file))
+    (or-false-left (not (eqb (summed (map owned (nodes file))) (stepCount file))) (not (everyLeaf targetsFit (places file))) six))
 
+module _ (file : Bytes) (four : broken4 file ≡ false) (six : broken6 file ≡ false) where
   steps-length : length (map stepOf (rows file)) ≡ stepCount file
   unfolding rows
   steps-length = length-map (rows file) stepOf ∙ listed-length (λ i. rowAt file (rowPlace file i)) 0 (stepCount file)
@@ -175,9 +185,9 @@ module _ (file : Bytes) (four : broken4 file ≡ false) (six : broken6 file ≡ 
       let x : Node = getD (nodes file) i noN in
       let l : nodeKind (x .kind) ≡ aLeaf = subst (λ (y : Node). nodeKind (y .kind) ≡ aLeaf) (same-node file i) e in
       let f : (1 ≤ x .count) × (x .count ≤ 64) =
-      leaf-fits x l (every-at (λ x. nodeFits (nodeKind (x .kind)) x) (nodes file) noN (nodes-fit file four) i
-      (node-inside (nodes file) i (λ n. let z : _≡_ {A = ℕ} 0 1 = cc in omega arith))) in
+      leaf-fits x (subst (λ (k : NodeKind). T (nodeFits k x)) l (every-at (λ x. nodeFits (nodeKind (x .kind)) x) (nodes file) noN (nodes-fit file four) i
+      (node-inside (nodes file) i (λ n. let z : _≡_ {A = ℕ} 0 1 = cc in omega arith)))) in
       let c : nodeIn (places file) i .count ≡ x .count = ap (λ (y : Node). y .count) (same-node file i) in
       let n : length (placeIn (places file) i .steps) ≡ nodeIn (places file) i .count =
-      placed-length (nodes file) (map stepOf (rows file)) (omega (arith, all-owned, steps-length)) i ∙ leaf-owned (nodeIn (places file) i) e in
+      placed-length (nodes file) (map stepOf (rows file)) (omega (arith, all-owned file six, steps-length)) i ∙ leaf-owned (nodeIn (places file) i) e in
       record { counted = n; some = omega (arith, f .0); few = omega (arith, f .1) }

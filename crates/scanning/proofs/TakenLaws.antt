@@ -16,7 +16,6 @@ use Rattle.text.specs.Words.{ascii, sameBytes, wordsFrom, words, ended}
 use Rattle.text.specs.Numerals.{numberFrom, numeral}
 use Rattle.text.specs.Forms.{actions}
 use Rattle.text.specs.Reading.{took, untaken, members, taken}
-use Rattle.text.specs.Reading as text
 use Rattle.text.proofs.WordLaws.{same-eq}
 use Rattle.scanning.specs.Scanned.{Next, wordAnd}
 use Rattle.scanning.proofs.ScanLaws.{slice-one, word-at, no-word}

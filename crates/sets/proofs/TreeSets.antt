@@ -17,7 +17,7 @@ use Rattle.policy.specs.Records.{mostNodes, Node, nodeAt, nodePlace, nodeCount}
 use Rattle.policy.specs.Tree.{Way, parallel, sequential, nodeKind, Place, places, Tree, leaf, node, tree, regulated}
 use Rattle.rules.specs.Interference.{leafEffects, effects, interfere, apart, broken9}
 use Rattle.rules.proofs.Grown.{placeIn, shaped}
-use Rattle.rules.proofs.Numbers.{ChildrenLater, node-in, children-later, tree-at, tree-top}
+use Rattle.rules.proofs.Numbers.{ChildrenLater, node-read, kind-read, tree-read, children-read, tree-top}
 use Rattle.policy.specs.Tree.{treeAt}
 use Rattle.reading.specs.Kinds.{wayOf, joinOf, kindOf}
 use Rattle.reading.specs.declared.Way.{Way as ReadWay}
@@ -107,44 +107,37 @@ module _ {file : Bytes} {n m i place : ℕ} {q : Kind} (d : Read file n m i plac
   inside : i < nodeCount file
   inside = omega (arith, d .below, t .frame .nodes)
 
-  node-here : here .node ≡ x
-  node-here = node-in file i inside ∙ ap (λ (k : ℕ). nodeAt file k) (sym (d .begins))
+  kind-told : {y : Kind} → q ≡ y → nodeKind (x .kind) ≡ kindOf y
+  kind-told told = sym (d .kind) ∙ ap kindOf told
 
-  kind-here : nodeKind (here .node .kind) ≡ kindOf q
-  kind-here = ap (λ (y : Node). nodeKind (y .kind)) node-here ∙ sym (d .kind)
-
-  tree-here : treeAt file i ≡ shaped (kindOf q) i here (treeAt file (x .left)) (treeAt file (x .right))
-  tree-here =
-      tree-at file (t .five) i inside ∙ λ j. shaped (kind-here j) i here (treeAt file (node-here j .left)) (treeAt file (node-here j .right))
+  tree-here : {y : Kind} → q ≡ y → treeAt file i ≡ shaped (kindOf y) i here (treeAt file (x .left)) (treeAt file (x .right))
+  tree-here told = tree-read file inside (d .begins) (t .five) (kind-told told)
 
   module _ (told : q ≡ Leaf) where
     leaf-tree : leaf i (here .node .set) (here .node .start) (here .steps) ≡ treeAt file i
     unfolding kindOf shaped
-    leaf-tree = sym (tree-here ∙ ap (λ (y : Kind). shaped (kindOf y) i here (treeAt file (x .left)) (treeAt file (x .right))) told)
+    leaf-tree = sym (tree-here told)
 
     pub leaf-regulated : {s : ActionSet} → s ≡ x .set → s ≡ regulated (treeAt file i)
     unfolding regulated
-    leaf-regulated e = e ∙ ap (λ (y : Node). y .set) (sym node-here) ∙ ap regulated leaf-tree
+    leaf-regulated e = e ∙ ap (λ (y : Node). y .set) (sym (node-read file inside (d .begins))) ∙ ap regulated leaf-tree
 
     -- as the walk through the leaf has found it
     pub leaf-affects : {held : List ActionSet} → Held leafEffects file (i + 1) held → getD held i 0 ≡ effects (treeAt file i)
     unfolding effects kindOf
-    leaf-affects h = h .at i (omega arith) (kind-here ∙ ap kindOf told) ∙ ap effects leaf-tree
+    leaf-affects h = h .at i (omega arith) (kind-read file inside (d .begins) (kind-told told)) ∙ ap effects leaf-tree
 
   module _ {w : ReadWay} {j : Join} (told : q ≡ Pair w j) {l r : ℕ} (el : l ≡ x .left) (er : r ≡ x .right) where
     pub sides : (i < l) × (l < n) × (i < r) × (r < n)
     unfolding kindOf
     sides =
-        let c : ChildrenLater (nodeCount file) i x =
-        subst (λ (y : Node). ChildrenLater (nodeCount file) i y) node-here (children-later file (t .five) i (wayOf w) (joinOf j) (kind-here ∙ ap kindOf told)) in
+        let c : ChildrenLater (nodeCount file) i x = children-read file inside (d .begins) (t .five) (kind-told told) in
         let f = t .frame .nodes in
         (omega (arith, c .left-later), omega (arith, c .left-below), omega (arith, c .right-later), omega (arith, c .right-below))
 
     pair-tree : node (wayOf w) (joinOf j) i (treeAt file l) (treeAt file r) ≡ treeAt file i
     unfolding kindOf shaped
-    pair-tree =
-        (λ u. node (wayOf w) (joinOf j) i (treeAt file (el u)) (treeAt file (er u)))
-        ∙ sym (tree-here ∙ ap (λ (y : Kind). shaped (kindOf y) i here (treeAt file (x .left)) (treeAt file (x .right))) told)
+    pair-tree = (λ u. node (wayOf w) (joinOf j) i (treeAt file (el u)) (treeAt file (er u))) ∙ sym (tree-here told)
 
     -- both sides have their entries
     of-sides : {A : Type 0} {f : ℕ → A} {none : A} {o : ℕ} {xs : List A} → o ≤ i + 1 → Filled f none o n xs → (getD xs l none ≡ f l) × (getD xs r none ≡ f r)
@@ -178,7 +171,7 @@ module _ {file : Bytes} {n m i place : ℕ} {q : Kind} (d : Read file n m i plac
   -- neither a leaf nor a pair
   pub no-sets : OneOf (1 ∷ 2 ∷ 4 ∷ []) (tagOf the-type q) → (EMPTY ≡ regulated (treeAt file i)) × (EMPTY ≡ effects (treeAt file i))
   unfolding kindOf shaped regulated effects
-  no-sets o = go q o tree-here
+  no-sets o = go q o (tree-here refl)
     where
       go : (y : Kind) → OneOf (1 ∷ 2 ∷ 4 ∷ []) (tagOf the-type y) → treeAt file i ≡ shaped (kindOf y) i here (treeAt file (x .left)) (treeAt file (x .right))
           → (EMPTY ≡ regulated (treeAt file i)) × (EMPTY ≡ effects (treeAt file i))
@@ -191,7 +184,7 @@ module _ {file : Bytes} {n m i place : ℕ} {q : Kind} (d : Read file n m i plac
   -- no pair
   pub alone-apart : OneOf (0 ∷ 1 ∷ 2 ∷ 4 ∷ []) (tagOf the-type q) → true ≡ apart (treeAt file i)
   unfolding kindOf shaped apart
-  alone-apart o = go q o tree-here
+  alone-apart o = go q o (tree-here refl)
     where
       go : (y : Kind) → OneOf (0 ∷ 1 ∷ 2 ∷ 4 ∷ []) (tagOf the-type y) → treeAt file i ≡ shaped (kindOf y) i here (treeAt file (x .left)) (treeAt file (x .right))
           → true ≡ apart (treeAt file i)

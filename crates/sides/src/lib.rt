@@ -1,6 +1,5 @@
 // What a node does between two phases of its sides: a status read, a stage set, a side told to begin.
 ghost use mathlib.Core.Path.{_≡_};
-ghost use mathlib.Core.Bool.{true, false};
 ghost use Prim.Native.Nat.{ℕ};
 ghost use lib.Dec.{eqb};
 ghost use Rattle.policy.specs.Tree.{and, or};

@@ -13,20 +13,18 @@ use borrow.Author.Tests.{leb-true, leb-false, le-leb, lt-leb, eqb-true, eqb-fals
 use Rattle.policy.specs.Bytes.{Bytes}
 use Rattle.policy.specs.Records.{Node, nodeAt, mostNodes, nodePlace, nodeCount}
 use Rattle.policy.specs.Steps.{Step, isIns}
-use Rattle.policy.specs.Tree.{Way, parallel, sequential, Join, NodeKind, aLeaf, aTrivial, anUnsatisfiable, aPair, noNode, nodeKind, places, Tree, leaf, trivial, unsatisfiable, node}
+use Rattle.policy.specs.Tree.{Way, parallel, sequential, NodeKind, aLeaf, aTrivial, anUnsatisfiable, aPair, noNode, nodeKind, places, Tree, leaf, trivial, unsatisfiable, node}
 use Rattle.rules.specs.Spread.{insCount, spreadOf, spread, narrow, broken10}
 use Rattle.rules.specs.Layout.{broken4}
 use Rattle.rules.specs.Children.{broken5}
 use Rattle.rules.specs.Targets.{broken6}
-use Rattle.rules.proofs.Grown.{placeIn, nodeIn, shaped}
-use Rattle.rules.proofs.Numbers.{node-in, ChildrenLater, children-later, tree-at, tree-top}
+use Rattle.rules.proofs.Grown.{placeIn, shaped}
+use Rattle.rules.proofs.Numbers.{kind-read, tree-read, children-read, tree-top}
+use Rattle.rules.proofs.Rows.{leaf-steps}
 use Rattle.policy.specs.Tree.{treeAt}
 use Rattle.records.specs.Frame.{Framed}
-use Rattle.surveying.specs.First.{firstStep}
 use Rattle.surveying.specs.Leaves.{insertsIn, Held}
 use Rattle.spreads.specs.Spreads.{cap, capped, cappedBy, cappedNode, Kept}
-use Rattle.reading.proofs.CodeLaws.{code-length}
-use Rattle.surveying.proofs.LeafLaws.{leaf-place, sum-is, node-counts}
 use Rattle.policy.proofs.ListLaws.{one-most}
 
 -- ---- numbers
@@ -170,44 +168,33 @@ module _ {file : Bytes} {n m : ℕ} (f : Framed file n m) (four : broken4 file �
   abbrev steps : List Step
   steps = placeIn (places file) i .steps
 
-  same : nodeIn (places file) i ≡ x
-  same = node-in file i (omega arith) ∙ ap (λ (q : ℕ). nodeAt file q) (sym p)
-
-  later : (w : Way) (j : Join) → nodeKind (x .kind) ≡ aPair w j → ChildrenLater (nodeCount file) i x
-  later w j k = subst (λ (y : Node). ChildrenLater (nodeCount file) i y) same (children-later file five i w j (ap (λ (y : Node). nodeKind (y .kind)) same ∙ k))
+  inside : i < nodeCount file
+  inside = omega arith
 
   -- a leaf has at most 64 steps
   few-steps : nodeKind (x .kind) ≡ aLeaf → length steps ≤ 64
-  few-steps k =
-      let e = leaf-place f (sum-is f six) i h (subst (λ (q : ℕ). nodeKind (nodeAt file q .kind) ≡ aLeaf) p k) in
-      omega (arith, ap length e, code-length file (6 + 16 * n + 12 * firstStep file i) (nodeAt file (nodePlace i) .count), node-counts file four i (omega arith) .few)
+  few-steps k = leaf-steps file four six i (kind-read file inside p k) .few
 
   ins-is : nodeKind (x .kind) ≡ aLeaf → getD held i 0 ≡ insCount steps
   unfolding insertsIn
-  ins-is k = counts .at i h (ap (λ (y : Node). nodeKind (y .kind)) same ∙ k)
-
-  -- one step down the tree, in the code's terms
-  tree-here : (k : NodeKind) → nodeKind (x .kind) ≡ k → treeAt file i ≡ shaped k i (placeIn (places file) i) (treeAt file (x .left)) (treeAt file (x .right))
-  tree-here k u =
-      tree-at file five i (omega arith)
-      ∙ λ j. shaped ((ap (λ (y : Node). nodeKind (y .kind)) same ∙ u) j) i (placeIn (places file) i) (treeAt file (same j .left)) (treeAt file (same j .right))
+  ins-is k = counts .at i h (kind-read file inside p k)
 
   node-capped : cappedNode x (getD held i 0) caps ≡ capped (treeAt file i)
   unfolding capped spread shaped cappedBy cap
   node-capped = sym (capped-by x (getD held i 0) caps (nodeKind (x .kind)) refl) ∙ go (nodeKind (x .kind)) refl
     where
       go : (k : NodeKind) → nodeKind (x .kind) ≡ k → cappedBy k (getD held i 0) (getD caps (x .left) 0) (getD caps (x .right) 0) ≡ capped (treeAt file i)
-      go aLeaf u = ins-is u ∙ sym (cap-low (insCount steps) (omega (arith, ins-few steps, few-steps u))) ∙ ap capped (sym (tree-here aLeaf u))
-      go aTrivial u = ap capped (sym (tree-here aTrivial u))
-      go anUnsatisfiable u = ap capped (sym (tree-here anUnsatisfiable u))
-      go noNode u = ap capped (sym (tree-here noNode u))
+      go aLeaf u = ins-is u ∙ sym (cap-low (insCount steps) (omega (arith, ins-few steps, few-steps u))) ∙ ap capped (sym (tree-read file inside p five u))
+      go aTrivial u = ap capped (sym (tree-read file inside p five u))
+      go anUnsatisfiable u = ap capped (sym (tree-read file inside p five u))
+      go noNode u = ap capped (sym (tree-read file inside p five u))
       go (aPair w j) u =
-          let y = later w j u in
+          let y = children-read file inside p five u in
           ap₂ (λ (l r : ℕ). cap (spreadOf w l r)) (kept .is (x .left) (omega arith) (omega arith)) (kept .is (x .right) (omega arith) (omega arith))
-          ∙ cap-pair w (spread (treeAt file (x .left))) (spread (treeAt file (x .right))) ∙ ap capped (sym (tree-here (aPair w j) u))
+          ∙ cap-pair w (spread (treeAt file (x .left))) (spread (treeAt file (x .right))) ∙ ap capped (sym (tree-read file inside p five u))
 
   pub here : Here file n i place (getD held i 0) caps
   here = record {
-    kept = record { inside = λ w j k. let y = later w j k in (omega (arith, kept .size), omega (arith, kept .size)); most = kept .most };
+    kept = record { inside = λ w j k. let y = children-read file inside p five k in (omega (arith, kept .size), omega (arith, kept .size)); most = kept .most };
     more = λ v g. kept-more file n i v caps (omega arith) (g ∙ node-capped) (subst (λ (k : ℕ). KeptFrom file n k caps) up kept);
   }

@@ -1,28 +1,21 @@
 -- Where a phase begins, in the bytes: a node with two sides, a leaf where the file has it, a node that is over when asked. Assumes nothing.
-use Prim.Native.Nat.{ℕ, zero, suc, _+_, _*_, _-_, _≤_, _<_}
+use Prim.Native.Nat.{ℕ, zero, suc, _+_, _*_, _-_, _≤_}
 use mathlib.Core.Path.{_≡_, refl, sym, ap, ap₂, _∙_, subst}
-use mathlib.Core.Bool.{Bool, true, false, _&&_, not}
-use mathlib.Core.List.{List, map}
+use mathlib.Core.Bool.{Bool, true, false, _&&_}
+use mathlib.Core.List.{List}
 use mathlib.Core.Logic.{_⊎_, inl, inr, ⊎-elim}
-use lib.Dec.{T, eqb, eqb→eq}
+use lib.Dec.{eqb, eqb→eq}
 use lib.ListN.{length, getD}
 use Rattle.actions.specs.Sets.{ActionSet, EMPTY, has}
-use Rattle.actions.proofs.Tests.{of-yes, not-not, or-false-right, true-not-false}
+use Rattle.actions.proofs.Tests.{of-yes, true-not-false}
 use Rattle.policy.specs.Bytes.{Bytes}
-use Rattle.policy.specs.Lists.{summed, every}
-use Rattle.policy.specs.Records.{nodeCount, stepCount, nodePlace, rowPlace, nodeAt, nodes}
+use Rattle.policy.specs.Records.{nodeCount, nodePlace, rowPlace, nodeAt}
 use Rattle.policy.specs.Steps.{Step}
-use Rattle.policy.specs.Tree.{Way, parallel, sequential, aLeaf, aTrivial, anUnsatisfiable, noNode, owned, places, Tree, leaf, trivial, unsatisfiable, node, numberOf, regulated}
-use Rattle.rules.specs.Leaves.{everyLeaf}
-use Rattle.rules.specs.Targets.{targetsFit, broken6}
-use Rattle.rules.specs.Modes.{modesFit, broken7}
+use Rattle.policy.specs.Tree.{Way, parallel, sequential, aLeaf, firstStep, Tree, leaf, trivial, unsatisfiable, node, numberOf, regulated}
 use Rattle.rules.specs.Lawful.{LawfulLeaf}
-use Rattle.rules.proofs.Grown.{shaped, nodeIn, placeIn, EachLeaf, grown-leaves}
-use Rattle.rules.proofs.InsFits.{insFits}
-use Rattle.rules.proofs.Leaves.{lawful-leaf}
+use Rattle.rules.proofs.Grown.{EachLeaf}
+use Rattle.rules.proofs.LawfulTree.{lawful-leaves}
 use Rattle.policy.specs.Tree.{treeAt}
-use Rattle.rules.specs.Passed.{Passed}
-use Rattle.rules.proofs.Rows.{leaf-at, ins-fit}
 use Rattle.turns.specs.Status.{Status, ended, halted, statusOf, isRunning}
 use Rattle.turns.specs.State.{State, leafOver}
 use Rattle.turns.specs.Turn.{Phase, before, after, closing, quiet, isAsked}
@@ -38,7 +31,6 @@ use Rattle.memory.specs.Cells as cells
 use Rattle.memory.specs.Cells.{celled}
 use Rattle.reading.specs.Code.{codeAt}
 use Rattle.leaves.specs.Leaf.{Ran}
-use Rattle.tables.specs.Tables.{stepsBefore}
 use Rattle.memory.specs.Promises as promises
 use Rattle.memory.specs.Promises.{Handed, Begun}
 use Rattle.sides.specs.Sides.{kindAt, leftAt, rightAt, joinAt, wayAt, Sided}
@@ -46,7 +38,7 @@ use Rattle.starting.specs.Ready.{Ready}
 use Rattle.memory.proofs.Begin.{askedIn, asked-in, works, asked-works, idle}
 use Rattle.memory.proofs.Frames.{own-number, held-apart}
 use Rattle.memory.proofs.Steps.{begin-parallel, begin-left, begin-first, begun-not, begun-already}
-use Rattle.tables.proofs.FileNodes.{tree-kind, tree-leaf, leaf-room}
+use Rattle.tables.proofs.FileNodes.{tree-leaf, leaf-room}
 use Rattle.sides.proofs.Nodes.{tree-is, numbered-here}
 use Rattle.memory.proofs.Written.{Reads, read-stage, read-phase, read-status}
 use Rattle.rules.proofs.Numbers.{number-at}
@@ -170,31 +162,11 @@ module _ {policy state work : List ℕ} {n : ℕ} (h : Sided policy state work n
 
 -- ---- a leaf, where the file has it
 
-module _ {file : Bytes} (ok : Passed file) where
-  targets-fit : T (everyLeaf targetsFit (places file))
-  unfolding broken6
-  targets-fit =
-      not-not (everyLeaf targetsFit (places file))
-      (or-false-right (not (eqb (summed (map owned (nodes file))) (stepCount file))) (not (everyLeaf targetsFit (places file))) (ok .kept6))
-
-  modes-fit : T (everyLeaf (λ r code. modesFit code) (places file))
-  unfolding broken7
-  modes-fit = not-not (everyLeaf (λ r code. modesFit code) (places file)) (ok .kept7)
-
-  -- every leaf under a node is lawful
-  leaves-at : (i : ℕ) → EachLeaf (λ i s c code. LawfulLeaf s code) (treeAt file i)
-  unfolding treeAt
-  leaves-at i =
-      grown-leaves (places file) (λ i s c code. LawfulLeaf s code) (λ i e.
-      lawful-leaf (nodeIn (places file) i .set) (placeIn (places file) i .steps) (leaf-at targetsFit (places file) i targets-fit e)
-      (leaf-at (λ r code. modesFit code) (places file) i modes-fit e)
-      (leaf-at (λ r code. every insFits code) (places file) i (ins-fit file (ok .kept4)) e)) (nodeCount file - i) i
-
 -- what the code reads of leaf i: its set b, the number k of its steps, and where they begin
 module _ {policy sets firsts state work : List ℕ} {i : ℕ} (h : Ready policy sets firsts state work i) (ek : kindAt policy i ≡ aLeaf)
     {b k from first at at′ : ℕ} (eb : b ≡ getD sets i 0) (p : at ≡ nodePlace i) (c : k ≡ nodeAt policy at .count)
     (f : first ≡ getD firsts i 0) (q : at′ ≡ nodePlace (nodeCount policy)) (g : from ≡ at′ + 12 * first) where
-  code-from : from ≡ rowPlace policy (stepsBefore policy i)
+  code-from : from ≡ rowPlace policy (firstStep policy i)
   unfolding rowPlace
   code-from = g ∙ ap₂ (λ (x y : ℕ). x + 12 * y) q (f ∙ h .tabled i (h .inside) .first)
 
@@ -210,8 +182,8 @@ module _ {policy sets firsts state work : List ℕ} {i : ℕ} (h : Ready policy 
       (ap₂ (codeAt policy) (sym code-from) (sym count-is))
 
   pub leaf-lawful : LawfulLeaf b (codeAt policy from k)
-  unfolding EachLeaf
-  leaf-lawful = subst (EachLeaf (λ i s c code. LawfulLeaf s code)) leaf-tree (leaves-at (h .passed) i)
+  unfolding EachLeaf treeAt
+  leaf-lawful = subst (EachLeaf (λ i s c code. LawfulLeaf s code)) leaf-tree (lawful-leaves policy (h .passed) (nodeCount policy - i) i)
 
   pub leaf-fits : from + 12 * k ≤ length policy
   unfolding kindAt
@@ -227,12 +199,6 @@ module _ {policy sets firsts state work : List ℕ} {i : ℕ} (h : Ready policy 
       (record { gives = w .gives; kept = λ n o. w .only .others n (λ z. held-apart t (own-number t) o (sym z)) })
 
 -- ---- a node that is over when it is asked
-
--- the tree under such a node of the file; a kind that no node has reads as trivial
-pub tree-over : {file : Bytes} → Passed file → (i : ℕ) → i < nodeCount file
-    → ((kindAt file i ≡ aTrivial → treeAt file i ≡ trivial i) × (kindAt file i ≡ noNode → treeAt file i ≡ trivial i)) × (kindAt file i ≡ anUnsatisfiable → treeAt file i ≡ unsatisfiable i)
-unfolding kindAt shaped
-tree-over ok i h = ((λ e. tree-kind ok i h aTrivial e, λ e. tree-kind ok i h noNode e), λ e. tree-kind ok i h anUnsatisfiable e)
 
 module _ (t : Tree) (m : Mem) (er : rest t m ≡ ranOf t (m (numberOf t) .ph) (held t m)) where
   idle-went : askedIn (regulated t) (m (numberOf t) .ph) (m (numberOf t)) ≡ false → promises.Went t m m 0 (Done false)

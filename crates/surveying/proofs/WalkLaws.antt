@@ -16,7 +16,7 @@ use Rattle.policy.specs.Bytes.{Bytes}
 use Rattle.policy.specs.Lists.{summed}
 use Rattle.policy.specs.Records.{mostNodes, Node, nodeAt, nodePlace, nodeCount, nodes}
 use Rattle.policy.specs.Steps.{Step}
-use Rattle.policy.specs.Tree.{aLeaf, aTrivial, anUnsatisfiable, noNode, NodeKind, nodeKind, owned, noPlace, places}
+use Rattle.policy.specs.Tree.{aLeaf, aTrivial, anUnsatisfiable, noNode, NodeKind, nodeKind, owned, firstStep, noPlace, places}
 use Rattle.reading.specs.Kinds.{kindOf}
 use Rattle.reading.specs.Code.{codeAt}
 use Rattle.reading.specs.declared.Kind.{Kind}
@@ -29,10 +29,9 @@ use Rattle.rules.specs.Targets.{targetsFit}
 use Rattle.rules.specs.Modes.{broken7}
 use Rattle.rules.specs.Possible.{allTaken, broken8}
 use Rattle.rules.specs.Interference.{leafEffects}
-use Rattle.rules.proofs.Numbers.{node-in}
+use Rattle.rules.proofs.Numbers.{node-read}
 use Rattle.walking.specs.declared.Walked.{Walked}
 use Rattle.walking.specs.Leaf.{LeafFound}
-use Rattle.surveying.specs.First.{firstStep}
 use Rattle.surveying.specs.Leaves.{nodePasses, modesOf, insertsIn, NodeFound, Held, lowest, LeavesFound}
 use Rattle.surveying.proofs.LeafLaws.{answerOf, passes-by, leavesFrom, leaves-whole, leaves-over, rest-here, code-is}
 
@@ -140,7 +139,7 @@ module _ {file : Bytes} {n m : ℕ} (f : Framed file n m) (four : broken4 file �
       here = of-yes _ (sym (found .targets) ∙ good)
 
       node-is : getD (places file) i noPlace .node ≡ nodeAt file place
-      node-is = node-in file i (omega (arith, f .nodes)) ∙ ap (nodeAt file) (sym p)
+      node-is = node-read file (omega (arith, f .nodes)) p
 
       leaf-here : nodeKind (getD (places file) i noPlace .node .kind) ≡ aLeaf → nodeKind (nodeAt file place .kind) ≡ aLeaf
       leaf-here l = ap (λ (x : Node). nodeKind (x .kind)) (sym node-is) ∙ l

@@ -1,5 +1,5 @@
 -- The tables, filled from the last node down. Assumes nothing.
-use Prim.Native.Nat.{ℕ, suc, _+_, _-_, _≤_, _<_}
+use Prim.Native.Nat.{ℕ, _+_, _-_, _≤_, _<_}
 use native.Mathlib.Omega.{arith}
 use native.Mathlib.Nat.{eq-or-lt-of-le}
 use mathlib.Core.Path.{_≡_, refl, sym, ap, _∙_, subst}
@@ -9,16 +9,17 @@ use lib.ListN.{length, getD, set, length-set}
 use lib.Seq.{getD-set-same, getD-set-other}
 use Rattle.policy.specs.Bytes.{Bytes}
 use Rattle.policy.specs.Records.{nodeCount, stepCount, nodePlace, nodeAt}
-use Rattle.policy.specs.Tree.{owned, regulated}
-use Rattle.policy.specs.Tree.{treeAt}
+use Rattle.policy.specs.Tree.{owned, firstStep, treeAt, regulated}
+use Rattle.policy.proofs.NodeLaws.{first-next}
 use Rattle.rules.specs.Passed.{Passed}
-use Rattle.tables.specs.Tables.{stepsBefore, Entered, EnteredFrom, Tabled}
-use Rattle.tables.proofs.FileNodes.{steps-next, steps-all}
+use Rattle.tables.specs.Tables.{Entered, EnteredFrom, Tabled}
+use Rattle.tables.proofs.FileNodes.{steps-all}
 
 -- nodes from i on are entered, and the steps before them are still to be counted
 pub record Filled (file : Bytes) (n m : ℕ) (sets₀ firsts₀ sets firsts : List ℕ) (i first : ℕ) : Type 0 where
+  pub nodes : n ≡ nodeCount file
   pub below : i ≤ n
-  pub count : first ≡ stepsBefore file i
+  pub count : first ≡ firstStep file i
   pub few : first ≤ m
   pub wide : length sets ≡ length sets₀
   pub long : length firsts ≡ length firsts₀
@@ -28,8 +29,9 @@ pub filled-none : {file : Bytes} {n m : ℕ} {sets firsts : List ℕ} → Passed
     → Filled file n m sets firsts sets firsts n m
 unfolding EnteredFrom
 filled-none {file} {n} ok e f = record {
+  nodes = e;
   below = omega arith;
-  count = f ∙ sym (steps-all ok) ∙ ap (stepsBefore file) (sym e);
+  count = f ∙ sym (steps-all ok) ∙ ap (firstStep file) (sym e);
   few = omega arith;
   wide = refl;
   long = refl;
@@ -38,8 +40,8 @@ filled-none {file} {n} ok e f = record {
 
 module _ {file : Bytes} {n m : ℕ} {sets₀ firsts₀ sets firsts : List ℕ} {i first : ℕ} (g : Filled file n m sets₀ firsts₀ sets firsts i first) (some : 0 < i) where
   -- the node before
-  steps-left : first ≡ stepsBefore file (i - 1) + owned (nodeAt file (nodePlace (i - 1)))
-  steps-left = let e : i ≡ suc (i - 1) = omega arith in g .count ∙ ap (stepsBefore file) e ∙ steps-next file (i - 1)
+  steps-left : first ≡ firstStep file (i - 1) + owned (nodeAt file (nodePlace (i - 1)))
+  steps-left = let e : i ≡ i - 1 + 1 = omega arith in g .count ∙ ap (firstStep file) e ∙ first-next file (i - 1) (omega (arith, g .nodes, g .below))
 
   pub steps-some : (o at : ℕ) → at ≡ nodePlace (i - 1) → o ≡ owned (nodeAt file at) → o ≤ first
   steps-some o at p f = omega (arith, steps-left, f ∙ ap (λ (x : ℕ). owned (nodeAt file x)) p)
@@ -53,8 +55,9 @@ module _ {file : Bytes} {n m : ℕ} {sets₀ firsts₀ sets firsts : List ℕ} {
   unfolding EnteredFrom
   filled-more s o at a b e p f =
       let q : o ≡ owned (nodeAt file (nodePlace (i - 1))) = f ∙ ap (λ (x : ℕ). owned (nodeAt file x)) p in
-      let c : first - o ≡ stepsBefore file (i - 1) = omega (arith, steps-left) in
+      let c : first - o ≡ firstStep file (i - 1) = omega (arith, steps-left) in
       record {
+        nodes = g .nodes;
         below = let l = g .below in omega arith;
         count = c;
         few = let l = g .few in omega arith;

@@ -4,19 +4,13 @@ use mathlib.Core.Path.{_≡_}
 use mathlib.Core.List.{List}
 use lib.ListN.{getD}
 use Rattle.policy.specs.Bytes.{Bytes}
-use Rattle.policy.specs.Lists.{listed, summed}
-use Rattle.policy.specs.Records.{nodeCount, nodePlace, nodeAt}
-use Rattle.policy.specs.Tree.{owned, regulated}
-use Rattle.policy.specs.Tree.{treeAt}
-
--- "Each leaf owns the next run of steps, leaves in node order": how many steps the nodes before node i own
-unfoldable pub stepsBefore : Bytes → ℕ → ℕ
-stepsBefore file i = summed (listed (λ k. owned (nodeAt file (nodePlace k))) 0 i)
+use Rattle.policy.specs.Records.{nodeCount}
+use Rattle.policy.specs.Tree.{firstStep, treeAt, regulated}
 
 -- the tables hold node i
 pub record Entered (file : Bytes) (sets firsts : List ℕ) (i : ℕ) : Type 0 where
   pub set : getD sets i 0 ≡ regulated (treeAt file i)
-  pub first : getD firsts i 0 ≡ stepsBefore file i
+  pub first : getD firsts i 0 ≡ firstStep file i
 
 -- the tables hold every node from i on
 unfoldable pub EnteredFrom : ℕ → Bytes → (sets firsts : List ℕ) → Type 0

@@ -5,5 +5,6 @@ pub mod LineLaws
 pub mod TableLaws
 pub mod TextLaws
 pub mod WholeLaws
+pub mod RecordLaws
 pub mod Printable
 pub mod Examples

@@ -1,7 +1,7 @@
 -- A number that was printed is read back, and what is printed of it is a word. Assumes nothing.
 use Prim.Native.Nat.{ℕ, zero, suc, _+_, _-_, _*_, _/_, _%_, _≤_, _<_}
 use native.Mathlib.Omega.{arith}
-use mathlib.Core.Path.{_≡_, refl, ap, _∙_, sym, subst}
+use mathlib.Core.Path.{_≡_, refl, ap, _∙_, sym}
 use mathlib.Core.Bool.{Bool, true, false}
 use mathlib.Core.List.{[], _∷_, _++_, append-assoc, append-nil}
 use mathlib.Core.Option.{some}
@@ -11,10 +11,9 @@ use borrow.Author.Tests.{le-leb, ltb-true, ltb-false}
 use Rattle.actions.proofs.Tests.{and-intro}
 use Rattle.policy.specs.Bytes.{Bytes}
 use Rattle.policy.specs.Lists.{every, listed}
-use Rattle.policy.proofs.ListLaws.{listed-at, every-at}
 use Rattle.text.specs.Words.{mark}
 use Rattle.text.specs.Numerals.{digit, numberFrom, numeral, digits, decimal}
-use Rattle.text.proofs.WordLaws.{every-append, inLine, plain, Word}
+use Rattle.text.proofs.WordLaws.{every-append, every-listed, inLine, plain, Word}
 
 digit-read : (most n d : ℕ) (bs : Bytes) → d < 10 → n * 10 + d ≤ most → numberFrom most n (digit d ∷ bs) ≡ numberFrom most (n * 10 + d) bs
 unfolding numberFrom
@@ -47,10 +46,7 @@ numeral-decimal most n h = ap (numberFrom most 0) (sym (append-nil (digits n n))
 
 digit-plain : (d : ℕ) → d < 10 → T (plain (digit d))
 unfolding plain inLine mark listed every
-digit-plain d h =
-    let z : 48 + (0 + d) ≡ 48 + d = omega arith in
-    subst (λ (b : ℕ). T (plain b)) (listed-at (λ x. digit x) 0 10 0 d h ∙ z)
-    (every-at plain (listed (λ x. digit x) 0 10) 0 tt d h)
+digit-plain d h = every-listed plain digit 10 tt d h
 
 one-digit : (d : ℕ) → d < 10 → Word (digit d ∷ [])
 unfolding every

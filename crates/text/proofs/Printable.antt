@@ -1,34 +1,34 @@
 -- Every file that the check passes has a text, from which its records are read back. Assumes nothing.
-use Prim.Native.Nat.{ℕ, zero, suc, _+_, _*_, _/_, _^_, _≤_, _<_}
+use Prim.Native.Nat.{ℕ, zero, suc, _+_, _*_, _/_, _≤_, _<_}
 use native.Mathlib.Nat.{mul-add}
 use native.Mathlib.Omega.{arith}
 use mathlib.Core.Path.{_≡_, refl, ap, ap₂, _∙_, sym, subst, subst₂}
-use mathlib.Core.Bool.{Bool, _&&_}
+use mathlib.Core.Bool.{_&&_}
 use mathlib.Core.List.{[], _∷_, _++_, map}
 use lib.Dec.{T, eqb, leb, le→leb}
-use lib.ListN.{length, getD, take, drop, length-drop, take-append-drop, drop-of-length-le}
-use lib.Seq.{drop-drop, length-take-le, drop-cons, take-all}
+use lib.ListN.{length, getD, take, drop, length-drop, drop-of-length-le}
+use lib.Seq.{drop-drop, length-take-le}
 use Rattle.actions.specs.Sets.{ActionSet}
 use Rattle.actions.proofs.Tests.{yes-of, and-intro, and-left}
-use Rattle.policy.specs.Bytes.{Bytes, spelt, number, spell}
+use Rattle.policy.specs.Bytes.{Bytes, number}
 use Rattle.policy.specs.Lists.{summed, every, listed}
 use Rattle.policy.specs.Records.{Node, Row, frontSize, nodeAt, rowAt, nodePlace, rowPlace, nodeCount, stepCount, nodes, rows, nodeBytes, stepBytes}
 use Rattle.policy.specs.Tree.{NodeKind, aLeaf, aTrivial, anUnsatisfiable, aPair, noNode, nodeKind, owned}
-use Rattle.policy.specs.Parts
-use Rattle.policy.proofs.ByteLaws.{Small, small-take, small-drop, spelt-less, spell-spelt, part-part, number-part}
+use Rattle.policy.proofs.ByteLaws.{Small, small-take, small-drop, number-less, part-part}
 use Rattle.policy.proofs.NumberLaws.{number-byte}
-use Rattle.policy.proofs.ListLaws.{listed-length, listed-at, every-at}
+use Rattle.policy.proofs.PartLaws.{node-part, row-part}
 use Rattle.rules.specs.Layout.{nodeFits, rowFits}
 use Rattle.rules.specs.Check.{passes, check}
 use Rattle.rules.specs.Passed.{Passed}
 use Rattle.rules.proofs.Passed.{passed}
-use Rattle.rules.proofs.Rows.{CountsFit, counts-fit, nodes-fit, rows-fit, all-owned}
+use Rattle.rules.proofs.Rows.{CountsFit, counts-fit, node-bytes-length, step-bytes-length, nodes-fit, rows-fit, all-owned}
 use Rattle.text.specs.Words.{sameBytes, newline}
 use Rattle.text.specs.Forms.{Sort, node, step, size, fieldsIn, recordOf, place, bound, Form, bare}
 use Rattle.text.specs.Printing.{Print, text, both, lineText, said, countIn, says, printedIf, recordText, stepsText, nodesText, printed}
 use Rattle.text.specs.Files.{ThereAndBack}
-use Rattle.text.proofs.WordLaws.{same-refl}
+use Rattle.text.proofs.WordLaws.{every-listed, same-refl}
 use Rattle.text.proofs.TextLaws.{read-text}
+use Rattle.text.proofs.RecordLaws.{record-again}
 use Rattle.text.proofs.WholeLaws.{zero-3, zero-4, Told, node-told, row-told}
 
 -- ---- a record
@@ -49,67 +49,25 @@ record-has s i bs e d =
     (lineText s f (fieldsIn s bs) i ++ (newline ∷ []), rw (recordText, d .is, yes-of (says s f bs) w))
 
 module _ (bs : Bytes) (small : Small bs) where
-  -- a byte of it, and a number of more bytes
   byte-bound : (i : ℕ) → i < length bs → number bs i 1 ≤ 255
   byte-bound i h = omega (arith, number-byte bs i h, small i)
-
-  number-bound : (i k : ℕ) → i + k ≤ length bs → number bs i k < 256 ^ k
-  unfolding number
-  number-bound i k h =
-      let e : length (take k (drop i bs)) ≡ k = length-take-le k (drop i bs) (simp length-drop (omega arith)) in
-      subst (λ (n : ℕ). spelt 0 (take k (drop i bs)) < 256 ^ n) e (spelt-less (take k (drop i bs)) (small-take k (drop i bs) (small-drop i bs small)))
-
-  number-again : (i k : ℕ) → i + k ≤ length bs → spell k (number bs i k) ≡ take k (drop i bs)
-  unfolding number
-  number-again i k h =
-      let e : length (take k (drop i bs)) ≡ k = length-take-le k (drop i bs) (simp length-drop (omega arith)) in
-      subst (λ (n : ℕ). spell n (spelt 0 (take k (drop i bs))) ≡ take k (drop i bs)) e (spell-spelt 0 (take k (drop i bs)) (small-take k (drop i bs) (small-drop i bs small)))
-
-  -- the bytes from i on: a byte and the others, a number and the others, a number alone
-  byte-first : (i : ℕ) → i < length bs → number bs i 1 ∷ drop (suc i) bs ≡ drop i bs
-  byte-first i h = ap (λ (n : ℕ). n ∷ drop (suc i) bs) (number-byte bs i h) ∙ sym (drop-cons bs i 0 h)
-
-  number-first : (i k : ℕ) → i + k ≤ length bs → spell k (number bs i k) ++ drop (i + k) bs ≡ drop i bs
-  number-first i k h = ap₂ {C = Bytes} _++_ (number-again i k h) (sym (drop-drop k i bs)) ∙ take-append-drop k (drop i bs)
-
-  number-last : (i k : ℕ) → i + k ≡ length bs → spell k (number bs i k) ≡ drop i bs
-  number-last i k h = number-again i k (omega arith) ∙ take-all k (drop i bs) (simp length-drop (omega arith))
-
-  abbrev head : Bytes → Bytes
-  head l = number bs 0 1 ∷ number bs 1 1 ∷ number bs 2 1 ∷ number bs 3 1 ∷ l
-
-  four-first : 4 ≤ length bs → head (drop 4 bs) ≡ bs
-  four-first h =
-      ap (λ (l : Bytes). number bs 0 1 ∷ number bs 1 1 ∷ number bs 2 1 ∷ l) (byte-first 3 (omega arith))
-      ∙ ap (λ (l : Bytes). number bs 0 1 ∷ number bs 1 1 ∷ l) (byte-first 2 (omega arith))
-      ∙ ap (λ (l : Bytes). number bs 0 1 ∷ l) (byte-first 1 (omega arith))
-      ∙ byte-first 0 (omega arith)
-
-  node-again : length bs ≡ size node → recordOf node (countIn node bs) (fieldsIn node bs) ≡ bs
-  unfolding recordOf fieldsIn countIn nodeAt Parts.node size
-  node-again h =
-      ap head (ap (λ (l : Bytes). spell 4 (number bs 4 4) ++ l) (number-last 8 8 (omega arith)) ∙ number-first 4 4 (omega arith)) ∙ four-first (omega arith)
-
-  row-again : length bs ≡ size step → recordOf step 0 (fieldsIn step bs) ≡ bs
-  unfolding recordOf fieldsIn rowAt Parts.step size
-  row-again h = ap head (number-last 4 8 (omega arith)) ∙ four-first (omega arith)
 
   node-has : (i : ℕ) → length bs ≡ size node → T (nodeFits (nodeKind (nodeAt bs 0 .kind)) (nodeAt bs 0)) → HasText (recordText node i bs)
   unfolding fieldsIn countIn nodeAt size
   node-has i h t =
-      record-has node i bs (node-again h)
+      record-has node i bs (record-again bs small node h)
       (subst (λ (k : ℕ). Told node k (countIn node bs) (fieldsIn node bs)) (number-byte bs 0 (omega arith))
       (node-told (number bs 0 1) (number bs 1 1) (number bs 2 1) (number bs 3 1) (number bs 4 4) (number bs 8 8)
-      (byte-bound 1 (omega arith)) (byte-bound 2 (omega arith)) (byte-bound 3 (omega arith)) (omega (arith, number-bound 4 4 (omega arith)))
-      (number-bound 8 8 (omega arith)) t))
+      (byte-bound 1 (omega arith)) (byte-bound 2 (omega arith)) (byte-bound 3 (omega arith)) (omega (arith, number-less bs 4 4 small (omega arith)))
+      (number-less bs 8 8 small (omega arith)) t))
 
   row-has : (j : ℕ) → length bs ≡ size step → T (rowFits (rowAt bs 0)) → HasText (recordText step j bs)
   unfolding fieldsIn countIn rowAt size
   row-has j h t =
-      record-has step j bs (row-again h)
+      record-has step j bs (record-again bs small step h)
       (subst (λ (k : ℕ). Told step k 0 (fieldsIn step bs)) (number-byte bs 0 (omega arith))
       (row-told (number bs 0 1) (number bs 1 1) (number bs 2 1) (number bs 3 1) (number bs 4 8)
-      (byte-bound 1 (omega arith)) (byte-bound 2 (omega arith)) (byte-bound 3 (omega arith)) (number-bound 4 8 (omega arith)) t))
+      (byte-bound 1 (omega arith)) (byte-bound 2 (omega arith)) (byte-bound 3 (omega arith)) (number-less bs 4 8 small (omega arith)) t))
 
 -- ---- records in a row
 
@@ -134,53 +92,24 @@ owned-count x h = go (nodeKind (x .kind)) refl
     go noNode e = absurd (rw e at h)
     go (aPair w j) e = rw (e, owned) (sym (zero-3 (x .count) (x .start) (x .set) (rw e at h) .0))
 
--- a test over f 0, f 1, .., at one of them
-pub every-listed : {A : Type 0} (g : A → Bool) (f : ℕ → A) (n : ℕ) → T (every g (listed f 0 n)) → (i : ℕ) → i < n → T (g (f i))
-every-listed {A} g f n t i h =
-    let z : 0 + i ≡ i = omega arith in
-    let l : i < length (listed f 0 n) = omega (arith, listed-length f 0 n) in
-    subst (λ (x : A). T (g x)) (listed-at f 0 n (f 0) i h ∙ ap f z) (every-at g (listed f 0 n) (f 0) t i l)
-
 -- k records further on
 further : (size k j : ℕ) (bs : Bytes) → drop (size * (j + k)) bs ≡ drop (size * k) (drop (size * j) bs)
 further size k j bs = ap (λ (n : ℕ). drop n bs) (mul-add size j k) ∙ sym (drop-drop (size * k) (size * j) bs)
 
 -- a record read where it is cut out, and where it lies
 module _ (bs : Bytes) (at : ℕ) where
+  here : at + 0 ≡ at
+  here = omega arith
+
   node-cut : at + 16 ≤ length bs → nodeAt (take 16 (drop at bs)) 0 ≡ nodeAt bs at
-  unfolding nodeAt
-  node-cut h =
-      let z : number bs (at + 0) 1 ≡ number bs at 1 = ap (λ (n : ℕ). number bs n 1) (omega arith) in
-      let e₀ = number-part bs at 16 0 1 (omega arith) h ∙ z in
-      let e₁ = number-part bs at 16 1 1 (omega arith) h in
-      let e₂ = number-part bs at 16 2 1 (omega arith) h in
-      let e₃ = number-part bs at 16 3 1 (omega arith) h in
-      let e₄ = number-part bs at 16 4 4 (omega arith) h in
-      let e₅ = number-part bs at 16 8 8 (omega arith) h in
-      λ i. record { kind = e₀ i; left = e₁ i; right = e₂ i; count = e₃ i; start = e₄ i; set = e₅ i }
+  node-cut h = node-part bs at 16 h 0 (omega arith) ∙ ap (nodeAt bs) here
 
   row-cut : at + 12 ≤ length bs → rowAt (take 12 (drop at bs)) 0 ≡ rowAt bs at
-  unfolding rowAt
-  row-cut h =
-      let z : number bs (at + 0) 1 ≡ number bs at 1 = ap (λ (n : ℕ). number bs n 1) (omega arith) in
-      let e₀ = number-part bs at 12 0 1 (omega arith) h ∙ z in
-      let e₁ = number-part bs at 12 1 1 (omega arith) h in
-      let e₂ = number-part bs at 12 2 1 (omega arith) h in
-      let e₃ = number-part bs at 12 3 1 (omega arith) h in
-      let e₄ = number-part bs at 12 4 8 (omega arith) h in
-      λ i. record { kind = e₀ i; action = e₁ i; first = e₂ i; second = e₃ i; operand = e₄ i }
+  row-cut h = row-part bs at 12 h 0 (omega arith) ∙ ap (rowAt bs) here
 
 module _ (file : Bytes) (small : Small file) (ok : Passed file) where
   counts : CountsFit file
   counts = counts-fit file (ok .kept3)
-
-  nodes-length : length (nodeBytes file) ≡ size node * nodeCount file
-  unfolding nodeBytes size rowPlace nodePlace
-  nodes-length = length-take-le (16 * nodeCount file) (drop frontSize file) (simp length-drop (omega (arith, counts .long)))
-
-  steps-length : length (stepBytes file) ≡ size step * stepCount file
-  unfolding stepBytes size rowPlace nodePlace
-  steps-length = length-take-le (12 * stepCount file) (drop (nodePlace (nodeCount file)) file) (simp length-drop (omega (arith, counts .long)))
 
   -- where a record lies among the records, and where in the file
   node-lies : (i : ℕ) → i < nodeCount file → take (size node) (drop (size node * i) (nodeBytes file)) ≡ take (size node) (drop (nodePlace i) file)
@@ -249,8 +178,8 @@ module _ (file : Bytes) (small : Small file) (ok : Passed file) where
       → HasText (nodesText n i (drop (size node * i) (nodeBytes file)) (drop (size step * j) (stepBytes file)))
   unfolding nodesText listed summed size
   nodes-have zero i j h e =
-      let a : drop (16 * i) (nodeBytes file) ≡ [] = drop-of-length-le (nodeBytes file) {i = 16 * i} (omega (arith, nodes-length)) in
-      let b : drop (12 * j) (stepBytes file) ≡ [] = drop-of-length-le (stepBytes file) {i = 12 * j} (omega (arith, steps-length)) in
+      let a : drop (16 * i) (nodeBytes file) ≡ [] = drop-of-length-le (nodeBytes file) {i = 16 * i} (omega (arith, node-bytes-length file counts)) in
+      let b : drop (12 * j) (stepBytes file) ≡ [] = drop-of-length-le (stepBytes file) {i = 12 * j} (omega (arith, step-bytes-length file counts)) in
       ([], ap₂ (nodesText zero i) a b)
   nodes-have (suc n) i j h e =
       let ns : Bytes = drop (16 * i) (nodeBytes file) in
@@ -267,8 +196,8 @@ module _ (file : Bytes) (small : Small file) (ok : Passed file) where
   has-text : HasText (printed (nodeBytes file) (stepBytes file))
   unfolding printed size nodes
   has-text =
-      let q : length (nodeBytes file) / 16 ≡ nodeCount file = omega (arith, nodes-length) in
-      subst (λ (n : ℕ). HasText (nodesText n 0 (nodeBytes file) (stepBytes file))) (sym q) (nodes-have (nodeCount file) 0 0 (omega arith) (omega (arith, all-owned file (ok .kept4) (ok .kept6))))
+      let q : length (nodeBytes file) / 16 ≡ nodeCount file = omega (arith, node-bytes-length file counts) in
+      subst (λ (n : ℕ). HasText (nodesText n 0 (nodeBytes file) (stepBytes file))) (sym q) (nodes-have (nodeCount file) 0 0 (omega arith) (omega (arith, all-owned file (ok .kept6))))
 
 -- Every file that the check passes goes to text and back.
 pub read-printed : (file : Bytes) (r e : ActionSet) → Small file → check file ≡ passes r e → ThereAndBack file

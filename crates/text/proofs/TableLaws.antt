@@ -1,4 +1,4 @@
--- What the table of lines gives: a line's first word leads to its form again, and is a word. Assumes nothing.
+-- What the table of lines gives: what every form passes, the form found passes; its first word leads to it again, and is a word. Assumes nothing.
 use Prim.Native.Nat.{ℕ}
 use native.Mathlib.Omega.{arith}
 use mathlib.Core.Path.{_≡_, refl, subst}
@@ -30,6 +30,15 @@ module _ (p : Form → Bool) (P : Form → Type 0) (f : Form) where
           let q : g ≡ f = cc in
           subst (λ (x : Form). T (p x) × P x) q (of-yes (p g) t, a .0)
       go false t r = r (rw (firstOf, t) at e)
+
+each-passes : (q : Form → Bool) (fs : List Form) → T (every q fs) → All (λ f. T (q f)) fs
+unfolding All every
+each-passes q [] h = tt
+each-passes q (f ∷ fs) h = (and-left (q f) (every q fs) h, each-passes q fs (and-right (q f) (every q fs) h))
+
+-- what every form of the list passes, the form found passes
+pub first-passes : (p q : Form → Bool) (f : Form) (fs : List Form) → T (every q fs) → firstOf p fs ≡ some f → T (q f)
+first-passes p q f fs h e = first-is p (λ g. T (q g)) f fs (each-passes q fs h) e .1
 
 sort-is : (s t : Sort) → T (sameSort s t) → s ≡ t
 unfolding sameSort

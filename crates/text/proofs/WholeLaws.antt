@@ -11,7 +11,6 @@ use Rattle.actions.specs.Sets.{isAction, isEmpty}
 use Rattle.actions.proofs.Tests.{and-intro, and-left, and-right}
 use Rattle.policy.specs.Lists.{every}
 use Rattle.policy.specs.Tree.{nodeKind}
-use Rattle.policy.specs.Parts
 use Rattle.rules.specs.Layout.{nodeFits, noAction, noFirst, noSecond, noOperand, rowFits}
 use Rattle.text.specs.Forms.{Sort, node, step, sameSort, Fields, recordOf, Slot, actions, place, bound, byte, word, Form, forms, firstOf, ofKind}
 use Rattle.text.specs.Printing.{said}

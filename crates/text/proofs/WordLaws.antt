@@ -1,17 +1,18 @@
 -- Laws of lines and words: what letters in a row do, and words that are the same. Assumes nothing.
-use Prim.Native.Nat.{ℕ, _≤_}
+use Prim.Native.Nat.{ℕ, _+_, _≤_, _<_}
 use native.Mathlib.Omega.{arith}
-use mathlib.Core.Path.{_≡_, refl, ap, ap₂, _∙_}
+use mathlib.Core.Path.{_≡_, refl, ap, ap₂, _∙_, subst}
 use mathlib.Core.Bool.{Bool, true, false, _&&_, not}
 use mathlib.Core.List.{List, [], _∷_, _++_, append-assoc, append-nil}
 use lib.Dec.{T, eqb, eqb→eq, eqb-refl}
 use lib.ListN.{length}
 use Rattle.actions.proofs.Tests.{and-intro, and-left, and-right, not-false}
 use Rattle.policy.specs.Bytes.{Bytes}
-use Rattle.policy.specs.Lists.{every}
+use Rattle.policy.specs.Lists.{every, listed}
+use Rattle.policy.proofs.ListLaws.{listed-length, listed-at, every-at}
 use Rattle.text.specs.Words.{sameBytes, newline, linesFrom, lines, Mark, blank, brace, hash, letter, mark, ended, wordsFrom}
 
--- ---- tests of every byte
+-- ---- tests of every byte, and of f 0, f 1, ..
 
 module _ (p : ℕ → Bool) where
   pub every-append : (xs ys : Bytes) → T (every p xs) → T (every p ys) → T (every p (xs ++ ys))
@@ -23,6 +24,13 @@ module _ (p : ℕ → Bool) where
   unfolding every
   every-weaker q w [] h = tt
   every-weaker q w (x ∷ xs) h = and-intro (q x) (every q xs) (w x (and-left (p x) (every p xs) h)) (every-weaker q w xs (and-right (p x) (every p xs) h))
+
+-- at one place
+pub every-listed : {A : Type 0} (g : A → Bool) (f : ℕ → A) (n : ℕ) → T (every g (listed f 0 n)) → (i : ℕ) → i < n → T (g (f i))
+every-listed {A} g f n t i h =
+    let z : 0 + i ≡ i = omega arith in
+    let l : i < length (listed f 0 n) = omega (arith, listed-length f 0 n) in
+    subst (λ (x : A). T (g x)) (listed-at f 0 n (f 0) i h ∙ ap f z) (every-at g (listed f 0 n) (f 0) t i l)
 
 -- ---- the same bytes
 

@@ -12,11 +12,12 @@ use Rattle.policy.specs.Lists.{every, listed}
 use Rattle.policy.proofs.ByteLaws.{put-length}
 use Rattle.text.specs.Forms.{Sort, node, step, size, Fields, Form, recordOf, forms}
 use Rattle.text.specs.Reading.{Line, nothing, unreadable, entry, found, wrong, readFrom}
+use Rattle.text.proofs.RecordLaws.{record-size}
 use Rattle.wording.specs.Tables.{formCount, noForm, formAt, lineMeant}
 use Rattle.wording.proofs.TableLaws.{tested-at}
 use Rattle.measuring.proofs.CountLaws.{form-node, form-step, meant-entry}
 use Rattle.transcribing.specs.Written.{leadIn, written, Roomy, Copied}
-use Rattle.transcribing.proofs.WrittenLaws.{node-length, step-length, NodeBefore, node-before, StepBefore, step-before, lead-is}
+use Rattle.transcribing.proofs.WrittenLaws.{NodeBefore, node-before, StepBefore, step-before, lead-is}
 
 -- no more steps are read than may follow
 lead-few : (ls : List Line) (room n k : ℕ) (ns ss : Bytes) → readFrom room n ls ≡ found k ns ss → k ≤ room
@@ -51,7 +52,7 @@ module _ (form : ℕ) (xs : Fields) (ls : List Line) (i j : ℕ) (N S : Bytes) (
 
     size-of : length (r .nodes) ≡ 16 + length (before .rest)
     unfolding size
-    size-of = ap length (before .nodes) ∙ length-append (recordOf node (before .lead) xs) (before .rest) ∙ ap (λ (n : ℕ). n + length (before .rest)) (node-length (before .lead) xs)
+    size-of = ap length (before .nodes) ∙ length-append (recordOf node (before .lead) xs) (before .rest) ∙ ap (λ (n : ℕ). n + length (before .rest)) (record-size node (before .lead) xs)
 
     pub node-room : 16 * i + 16 ≤ length N
     unfolding size
@@ -76,7 +77,7 @@ module _ (form : ℕ) (xs : Fields) (ls : List Line) (i j : ℕ) (N S : Bytes) (
         steps = r .steps;
         reads = before .is;
         few = few-room form (omega arith);
-        nodesFit = omega (arith, r .nodesFit, size-of, ap length e, put-length N (16 * i) (recordOf node (leadIn ls) xs) (omega (arith, node-room, node-length (leadIn ls) xs)));
+        nodesFit = omega (arith, r .nodesFit, size-of, ap length e, put-length N (16 * i) (recordOf node (leadIn ls) xs) (omega (arith, node-room, record-size node (leadIn ls) xs)));
         stepsFit = r .stepsFit;
       };
     }
@@ -96,7 +97,7 @@ module _ (form : ℕ) (xs : Fields) (ls : List Line) (i j : ℕ) (N S : Bytes) (
 
     steps-size : length (r .steps) ≡ 12 + length (after .2 .rest)
     unfolding size
-    steps-size = ap length (after .2 .steps) ∙ length-append (recordOf step 0 xs) (after .2 .rest) ∙ ap (λ (n : ℕ). n + length (after .2 .rest)) (step-length xs)
+    steps-size = ap length (after .2 .steps) ∙ length-append (recordOf step 0 xs) (after .2 .rest) ∙ ap (λ (n : ℕ). n + length (after .2 .rest)) (record-size step 0 xs)
 
     pub step-room : 12 * j + 12 ≤ length S
     unfolding size
@@ -115,7 +116,7 @@ module _ (form : ℕ) (xs : Fields) (ls : List Line) (i j : ℕ) (N S : Bytes) (
         reads = after .2 .is;
         few = after .1;
         nodesFit = r .nodesFit;
-        stepsFit = omega (arith, r .stepsFit, steps-size, ap length e, put-length S (12 * j) (recordOf step 0 xs) (omega (arith, step-room, step-length xs)));
+        stepsFit = omega (arith, r .stepsFit, steps-size, ap length e, put-length S (12 * j) (recordOf step 0 xs) (omega (arith, step-room, record-size step 0 xs)));
       };
     }
 

@@ -12,13 +12,14 @@ use Rattle.text.specs.Words.{lines, linesFrom, words, wordsFrom, ended}
 use Rattle.text.specs.Forms.{Sort, node, step, size, Fields, recordOf}
 use Rattle.text.specs.Reading.{records, Line, nothing, unreadable, entry, lineOf, readLines, Found, found, wrong, readFrom, answer, readText}
 use Rattle.text.specs.Reading as text
+use Rattle.text.proofs.RecordLaws.{record-size}
 use Rattle.wording.specs.Tables.{lineMeant}
 use Rattle.measuring.specs.Measures.{ReadsOn, sized, wrongAt, sizesRead}
 use Rattle.measuring.proofs.LineLaws.{nothing-more, read-on}
 use Rattle.transcribing.specs.Written.{leadIn, Buffers, buffers, written, Roomy, Ready}
 use Rattle.transcribing.specs.Transcribed.{gave, transcribed}
 use Rattle.transcribing.specs.declared.Answer.the-variants.{Read, BadLine, Short}
-use Rattle.transcribing.proofs.WrittenLaws.{node-length, step-length, node-before, step-before, NodeBefore, StepBefore, written-found}
+use Rattle.transcribing.proofs.WrittenLaws.{node-before, step-before, NodeBefore, StepBefore, written-found}
 use Rattle.transcribing.proofs.FitLaws.{line-fits}
 
 -- ---- line after line
@@ -79,13 +80,13 @@ whole (entry f xs ∷ ls) room n k ns ss e = go (f .sort) refl room e (λ r. who
     go node q r h ih =
         let x : NodeBefore xs (readFrom (f .room) (suc n) ls) k ns ss = node-before xs (readFrom (f .room) (suc n) ls) k ns ss (rw (q, readFrom) at h) in
         let w : Whole (x .rest) ss = ih (f .room) (x .lead) (x .rest) ss (x .is) in
-        let l : length ns ≡ 16 + length (x .rest) = ap length (x .nodes) ∙ length-append (recordOf node (x .lead) xs) (x .rest) ∙ ap (λ (m : ℕ). m + length (x .rest)) (node-length (x .lead) xs) in
+        let l : length ns ≡ 16 + length (x .rest) = ap length (x .nodes) ∙ length-append (recordOf node (x .lead) xs) (x .rest) ∙ ap (λ (m : ℕ). m + length (x .rest)) (record-size node (x .lead) xs) in
         record { nodes = omega (arith, w .nodes); steps = w .steps }
     go step q zero h ih = let u : wrong n ≡ found k ns ss = rw (q, readFrom) at h in let z : _≡_ {A = ℕ} 0 1 = cc in absurd (omega arith)
     go step q (suc r) h ih =
         let x : StepBefore xs (readFrom r (suc n) ls) k ns ss = step-before xs (readFrom r (suc n) ls) k ns ss (rw (q, readFrom) at h) in
         let w : Whole ns (x .rest) = ih r (x .lead) ns (x .rest) (x .is) in
-        let l : length ss ≡ 12 + length (x .rest) = ap length (x .steps) ∙ length-append (recordOf step 0 xs) (x .rest) ∙ ap (λ (m : ℕ). m + length (x .rest)) (step-length xs) in
+        let l : length ss ≡ 12 + length (x .rest) = ap length (x .steps) ∙ length-append (recordOf step 0 xs) (x .rest) ∙ ap (λ (m : ℕ). m + length (x .rest)) (record-size step 0 xs) in
         record { nodes = w .nodes; steps = omega (arith, w .steps) }
 
 -- ---- the whole text

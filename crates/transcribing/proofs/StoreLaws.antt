@@ -7,8 +7,8 @@ use mathlib.Core.List.{[], _∷_, _++_}
 use lib.ListN.{length, getD, take, set, length-append}
 use lib.Seq.{sets, take-suc, take-length, length-take-le}
 use Rattle.policy.specs.Bytes.{Bytes, put}
-use Rattle.policy.proofs.ByteLaws.{put-sets}
-use Rattle.transcribing.proofs.WrittenLaws.{sets-append, put-nothing}
+use Rattle.policy.proofs.ByteLaws.{put-sets, sets-append}
+use Rattle.transcribing.proofs.WrittenLaws.{put-nothing}
 
 module _ (buffer : Bytes) (at : ℕ) (bytes : Bytes) (h : at + length bytes ≤ length buffer) where
   pub none-stored : buffer ≡ put buffer at (take 0 bytes)
@@ -21,7 +21,7 @@ module _ (buffer : Bytes) (at : ℕ) (bytes : Bytes) (h : at + length bytes ≤ 
       let m : length (take i bytes ++ (x ∷ [])) ≡ i + 1 = length-append (take i bytes) (x ∷ []) ∙ ap (λ (k : ℕ). k + 1) n in
       ap (λ (b : Bytes). set b (at + i) x) (put-sets buffer at (take i bytes) (omega arith))
       ∙ ap (λ (k : ℕ). set (sets buffer at (take i bytes)) (at + k) x) (sym n)
-      ∙ sym (sets-append buffer at (take i bytes) (x ∷ []))
+      ∙ sets-append buffer at (take i bytes) (x ∷ [])
       ∙ sym (put-sets buffer at (take i bytes ++ (x ∷ [])) (omega arith))
       ∙ ap (put buffer at) (sym (take-suc bytes i 0 l) ∙ ap (λ (k : ℕ). take k bytes) (sym (add-one i)))
 

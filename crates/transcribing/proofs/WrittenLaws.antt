@@ -3,39 +3,18 @@ use Prim.Native.Nat.{ℕ, zero, suc, _+_, _*_, _≤_}
 use native.Mathlib.Omega.{arith}
 use mathlib.Core.Path.{_≡_, refl, sym, ap, ap₂, _∙_}
 use mathlib.Core.List.{List, [], _∷_, _++_}
-use lib.ListN.{length, set, length-append}
-use lib.Seq.{sets}
-use Rattle.policy.specs.Bytes.{Bytes, spell, put}
-use Rattle.policy.specs.Parts
-use Rattle.policy.proofs.ByteLaws.{put-sets, put-length}
+use lib.ListN.{length, length-append}
+use Rattle.policy.specs.Bytes.{Bytes, put}
+use Rattle.policy.proofs.ByteLaws.{put-sets, put-length, put-append}
 use Rattle.text.specs.Forms.{Sort, node, step, size, Fields, recordOf}
 use Rattle.text.specs.Reading.{Line, nothing, unreadable, entry, Found, found, wrong, withNode, withStep, readFrom}
+use Rattle.text.proofs.RecordLaws.{record-size}
 use Rattle.transcribing.specs.Written.{leadIn, Buffers, written}
 
--- ---- one run after another
-
-pub sets-append : (l : Bytes) (i : ℕ) (xs ys : Bytes) → sets l i (xs ++ ys) ≡ sets (sets l i xs) (i + length xs) ys
-sets-append l i [] ys = let z : i ≡ i + 0 = omega arith in ap (λ (n : ℕ). sets l n ys) z
-sets-append l i (x ∷ xs) ys =
-    let z : suc i + length xs ≡ i + suc (length xs) = omega arith in
-    sets-append (set l i x) (suc i) xs ys ∙ ap (λ (n : ℕ). sets (sets (set l i x) (suc i) xs) n ys) z
-
-put-append : (bs : Bytes) (i : ℕ) (xs ys : Bytes) → i + (length xs + length ys) ≤ length bs → put (put bs i xs) (i + length xs) ys ≡ put bs i (xs ++ ys)
-put-append bs i xs ys h =
-    put-sets (put bs i xs) (i + length xs) ys (rw (put-length bs i xs (omega arith)) (omega arith))
-    ∙ ap (λ (l : Bytes). sets l (i + length xs) ys) (put-sets bs i xs (omega arith))
-    ∙ sym (sets-append bs i xs ys) ∙ sym (put-sets bs i (xs ++ ys) (rw (length-append xs ys) (omega arith)))
+-- ---- nothing put
 
 pub put-nothing : (bs : Bytes) (i : ℕ) → i ≤ length bs → bs ≡ put bs i []
 put-nothing bs i h = sym (put-sets bs i [] (omega arith))
-
-pub node-length : (k : ℕ) (xs : Fields) → length (recordOf node k xs) ≡ size node
-unfolding recordOf Parts.node spell size
-node-length k xs = refl
-
-pub step-length : (xs : Fields) → length (recordOf step 0 xs) ≡ size step
-unfolding recordOf Parts.step spell size
-step-length xs = refl
 
 -- ---- what a node or a step was put before
 
@@ -106,26 +85,24 @@ written-found (entry f xs ∷ ls) room n k ns ss e i j N S a b = go (f .sort) re
         let F : Found = readFrom (f .room) (suc n) ls in
         let x : NodeBefore xs F k ns ss = node-before xs F k ns ss (rw (q, readFrom) at h) in
         let R : Bytes = recordOf node (x .lead) xs in
-        let l : length R ≡ 16 = node-length (x .lead) xs in
+        let l : length R ≡ 16 = record-size node (x .lead) xs in
         let m : length ns ≡ length R + length (x .rest) = ap length (x .nodes) ∙ length-append R (x .rest) in
-        let z : 16 * (i + 1) ≡ 16 * i + length R = omega arith in
         let w : recordOf node (leadIn ls) xs ≡ R = ap (λ (c : ℕ). recordOf node c xs) (sym (lead-is ls (f .room) (suc n) (x .lead) (x .rest) ss (x .is))) in
         let N′ : Bytes = put N (16 * i) R in
         let o : length N′ ≡ length N = put-length N (16 * i) R (omega arith) in
         rw (q, written) (ap (λ (y : Bytes). written ls (i + 1) j (put N (16 * i) y) S) w
         ∙ ih (f .room) (x .lead) (x .rest) ss (x .is) (i + 1) j N′ S (omega arith) (omega arith)
         ∙ ap (λ (y : Bytes). record { nodes = y; steps = put S (12 * j) ss })
-        (ap (λ (p : ℕ). put N′ p (x .rest)) z ∙ put-append N (16 * i) R (x .rest) (omega arith) ∙ ap (put N (16 * i)) (sym (x .nodes))))
+        (put-append N (16 * i) R (16 * (i + 1)) (x .rest) (omega arith) (omega arith) ∙ ap (put N (16 * i)) (sym (x .nodes))))
     go step q zero h ih = let u : wrong n ≡ found k ns ss = rw (q, readFrom) at h in let z : _≡_ {A = ℕ} 0 1 = cc in absurd (omega arith)
     go step q (suc r) h ih =
         let F : Found = readFrom r (suc n) ls in
         let x : StepBefore xs F k ns ss = step-before xs F k ns ss (rw (q, readFrom) at h) in
         let R : Bytes = recordOf step 0 xs in
-        let l : length R ≡ 12 = step-length xs in
+        let l : length R ≡ 12 = record-size step 0 xs in
         let m : length ss ≡ length R + length (x .rest) = ap length (x .steps) ∙ length-append R (x .rest) in
-        let z : 12 * (j + 1) ≡ 12 * j + length R = omega arith in
         let S′ : Bytes = put S (12 * j) R in
         let o : length S′ ≡ length S = put-length S (12 * j) R (omega arith) in
         rw (q, written) (ih r (x .lead) ns (x .rest) (x .is) i (j + 1) N S′ (omega arith) (omega arith)
         ∙ ap (λ (y : Bytes). record { nodes = put N (16 * i) ns; steps = y })
-        (ap (λ (p : ℕ). put S′ p (x .rest)) z ∙ put-append S (12 * j) R (x .rest) (omega arith) ∙ ap (put S (12 * j)) (sym (x .steps))))
+        (put-append S (12 * j) R (12 * (j + 1)) (x .rest) (omega arith) (omega arith) ∙ ap (put S (12 * j)) (sym (x .steps))))

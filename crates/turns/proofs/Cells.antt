@@ -4,7 +4,7 @@ use native.Mathlib.Omega.{arith}
 use mathlib.Core.Path.{_≡_, refl, sym, ap, _∙_, subst}
 use mathlib.Core.Logic.{⊎-elim}
 use mathlib.Core.Bool.{Bool, true, false, _||_, not}
-use mathlib.Core.List.{List, [], _∷_}
+use mathlib.Core.List.{List}
 use lib.Dec.{T, eqb, eqb→eq, eqb-refl, ltb, ltb→lt, nltb→le}
 use lib.ListN.{length, take, drop, getD, replicate, length-replicate}
 use Rattle.actions.specs.Sets.{ActionSet}
@@ -13,7 +13,7 @@ use Rattle.policy.specs.Bytes.{Bytes, spelt, number, spell, put}
 use Rattle.policy.specs.Records.{mostNodes}
 use Rattle.policy.specs.Steps.{Step, halt, isNext}
 use Rattle.policy.specs.Tree.{Way, Join, Tree, leaf, trivial, unsatisfiable, node}
-use Rattle.policy.proofs.ByteLaws.{Small, small-append, put-small, spell-small, zeros-small, put-length, part-before, drop-after, part-inside, number-part, spell-length, spelt-of-spell}
+use Rattle.policy.proofs.ByteLaws.{put-length, part-before, drop-after, part-inside, number-part, spell-length, spelt-of-spell}
 use Rattle.rules.specs.Lawful.{holds, Disjoint, Numbered, Lawful}
 use Rattle.turns.specs.Status.{Status, running, ended, endedLeft, endedRight, halted, dropped, statusNumber, statusOf}
 use Rattle.turns.specs.State.{State, at, over, status, offset, counter, leftOf, rightOf}
@@ -173,11 +173,6 @@ store-elsewhere t below s bs size k e =
     store-sized (λ cs. cellAt cs k ≡ cellAt bs k) t below
     (λ i u x cs z q. put-elsewhere cs i k x z (below i u) (no-of (eqb i k) (λ v. subst T e (subst (λ (n : ℕ). T (holds t n)) (eqb→eq i k v) u))) ∙ q) s bs size refl .1
 
-pub store-elsewhere-read : (t : Tree) → Below mostNodes t → (s : State) (bs : Bytes) → length bs ≡ stateSize → (k : ℕ) → k < mostNodes → holds t k ≡ false
-    → (statusAt (store t s bs) k ≡ statusAt bs k) × (offsetAt (store t s bs) k ≡ offsetAt bs k)
-    × (zerosAt (store t s bs) k ≡ zerosAt bs k) × (counterAt (store t s bs) k ≡ counterAt bs k)
-store-elsewhere-read t below s bs size k b e = cell-same (store t s bs) bs k (store-length t below s bs size) size b (store-elsewhere t below s bs size k e)
-
 -- the cells of the tree are those of the state
 unfoldable pub Kept : Tree → State → Bytes → Type 0
 Kept (leaf i r c code) s bs = cellAt bs i ≡ cell s
@@ -305,37 +300,6 @@ kept-load (node w j i l r) (over s false a b) bs below size (pair-held h g) k =
 pub load-store : (t : Tree) → Apart t → Below mostNodes t → (s : State) → Stored t s → (bs : Bytes) → length bs ≡ stateSize → load t (store t s bs) ≡ s
 load-store t apart below s h bs size = kept-load t s (store t s bs) below (store-length t below s bs size) h (store-kept t apart below s bs size)
 
--- what is stored is bytes
-status-small : (s : Status) → statusNumber s < 256
-unfolding statusNumber
-status-small running = omega arith
-status-small ended = omega arith
-status-small endedLeft = omega arith
-status-small endedRight = omega arith
-status-small halted = omega arith
-status-small dropped = omega arith
-
-cell-small : (s : State) → offset s < 256 → Small (cell s)
-unfolding cell
-cell-small s h =
-    small-append (statusNumber (status s) ∷ offset s ∷ 0 ∷ 0 ∷ []) (spell 4 (counter s)) front (spell-small 4 (counter s))
-  where
-    front : Small (statusNumber (status s) ∷ offset s ∷ 0 ∷ 0 ∷ [])
-    front zero = status-small (status s)
-    front (suc zero) = h
-    front (suc (suc zero)) = omega arith
-    front (suc (suc (suc zero))) = omega arith
-    front (suc (suc (suc (suc i)))) = omega arith
-
-pub store-small : {t : Tree} {s : State} → Stored t s → (bs : Bytes) → Small bs → Small (store t s bs)
-unfolding store leftOf rightOf offset
-store-small {t = leaf i r c₀ code} {s = at s false o c} (leaf-held g h) bs k = put-small bs (cellPlace i) (cell (at s false o c)) k (cell-small (at s false o c) g)
-store-small {t = trivial i} {s = at s false o c} (trivial-held g h) bs k = put-small bs (cellPlace i) (cell (at s false o c)) k (cell-small (at s false o c) g)
-store-small {t = unsatisfiable i} {s = at s false o c} (unsatisfiable-held g h) bs k = put-small bs (cellPlace i) (cell (at s false o c)) k (cell-small (at s false o c) g)
-store-small {t = node w j i l r} {s = over s false a b} (pair-held g h) bs k =
-    let b₀ : Bytes = put bs (cellPlace i) (cell (over s false a b)) in
-    store-small h (store l a b₀) (store-small g b₀ (put-small bs (cellPlace i) (cell (over s false a b)) k (cell-small (over s false a b) zero-byte)))
-
 -- ---- a state at rest
 
 pub gone-stored : (t : Tree) → Stored t (gone t)
@@ -366,15 +330,7 @@ pub saved-kept : (t : Tree) → Apart t → Below mostNodes t → (s : State) �
 unfolding saved
 saved-kept t apart below s = store-kept t apart below s (replicate stateSize 0) blank
 
-pub saved-small : (t : Tree) → Sized t → (s : State) → Rest t s → Small (saved t s)
-unfolding saved
-saved-small t sized s rest = store-small (rest-stored sized rest) (replicate stateSize 0) (zeros-small stateSize)
-
 -- reading back a saved state gives the state that was saved
 pub load-saved : (t : Tree) → Apart t → Below mostNodes t → Sized t → (s : State) → Rest t s → load t (saved t s) ≡ s
 unfolding saved
 load-saved t apart below sized s rest = load-store t apart below s (rest-stored sized rest) (replicate stateSize 0) blank
-
-pub load-saved-gone : (t : Tree) → Apart t → Below mostNodes t → load t (saved t (gone t)) ≡ gone t
-unfolding saved
-load-saved-gone t apart below = load-store t apart below (gone t) (gone-stored t) (replicate stateSize 0) blank

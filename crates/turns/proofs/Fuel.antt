@@ -12,10 +12,8 @@ use lib.ListN.{length, getD}
 use Rattle.actions.specs.Sets.{Action, ActionSet, has}
 use Rattle.policy.specs.Steps.{Step, next, ok, sup, ins, acase, spend, end, halt, targets, isNext}
 use Rattle.rules.specs.Lawful.{Ahead, AllAhead, Inside, Forward, LawfulLeaf}
-use Rattle.turns.specs.Status.{running}
-use Rattle.turns.specs.State.{State, at, offset, counter}
 use Rattle.turns.specs.Process.{Process, ran, lets, does}
-use Rattle.turns.specs.Turn.{which, affords, stepping, goes, leafWork, after}
+use Rattle.turns.specs.Turn.{which, affords, stepping, goes}
 
 -- an offset is in the leaf, or there is a halt where the leaf would read it
 pub in-leaf : (code : List Step) (o : ℕ) → (o < length code) ⊎ (getD code o halt ≡ halt)
@@ -89,9 +87,3 @@ module _ (i : ℕ) (a : Action) {r : ActionSet} {code : List Step} (law : Lawful
 
   pub goes-step : (o c : ℕ) → goes i code a (suc (length code)) o c ≡ stepping i a (goes i code a (suc (length code))) o c (getD code o halt)
   goes-step o c = goes-rule (suc (length code)) o c (omega arith)
-
--- the phase after the verdict is that rule: the fuel that the turn rules give is enough
-pub after-step : (i : ℕ) {r : ActionSet} {code : List Step} → LawfulLeaf r code → (s : State)
-    → leafWork i code after s ≡ stepping i 0 (λ o c. leafWork i code after (at running true o c)) (offset s) (counter s) (getD code (offset s) halt)
-unfolding leafWork offset counter
-after-step i law s = goes-rule i 0 law _ (offset s) (counter s) (omega arith)

@@ -6,17 +6,16 @@ use mathlib.Core.Path.{_≡_, refl, sym, _∙_, ap, subst}
 use mathlib.Core.Bool.{Bool, true, false, not}
 use mathlib.Core.List.{List}
 use lib.Dec.{T, ltb, ltb→lt, nltb→le}
-use lib.ListN.{length, getD, take, drop, length-drop, List·getD-eq-default}
-use lib.Seq.{length-take-le}
+use lib.ListN.{length, getD, List·getD-eq-default}
 use Rattle.actions.specs.Sets.{ActionSet}
-use Rattle.policy.specs.Bytes.{Bytes, spelt, number}
+use Rattle.policy.specs.Bytes.{Bytes}
 use Rattle.policy.specs.Records.{mostNodes, nodeCount, nodePlace, nodeAt, nodes, rowPlace, Node}
 use Rattle.policy.specs.Steps.{Step, halt, isNext}
 use Rattle.policy.specs.Tree.{places, noPlace, tree, Tree, leaf, trivial, unsatisfiable, node}
-use Rattle.policy.proofs.ListLaws.{listed-at, listed-length}
-use Rattle.policy.proofs.ByteLaws.{Small, small-take, small-drop, spelt-less}
+use Rattle.policy.proofs.NodeLaws.{noN, nodes-length, node-of}
+use Rattle.policy.proofs.ByteLaws.{Small, number-less}
 use Rattle.rules.proofs.Grown.{placeIn, EachLeaf, grown-leaves}
-use Rattle.rules.proofs.Numbers.{noN, same-node}
+use Rattle.rules.proofs.Numbers.{same-node}
 use Rattle.rules.specs.Passed.{Passed}
 use Rattle.rules.proofs.Rows.{counts-fit, leaf-steps}
 use Rattle.rules.proofs.LawfulTree.{lawful, numbers-below-nodes}
@@ -36,12 +35,6 @@ use Rattle.turns.proofs.Steps.{waits-in}
 
 -- ---- sizes
 
-number-less : (bs : Bytes) (i size : ℕ) → Small bs → i + size ≤ length bs → number bs i size < 256 ^ size
-unfolding number
-number-less bs i size h l =
-    let e : length (take size (drop i bs)) ≡ size = length-take-le size (drop i bs) (simp length-drop (omega arith)) in
-    subst (λ (n : ℕ). spelt 0 (take size (drop i bs)) < 256 ^ n) e (spelt-less (take size (drop i bs)) (small-take size (drop i bs) (small-drop i bs h)))
-
 -- what a leaf's cell can hold
 abbrev LeafSized : ℕ → ActionSet → ℕ → List Step → Type 0
 LeafSized i s c code = ((o : ℕ) → T (isNext (getD code o halt)) → o < 256) × (c < 256 ^ 4)
@@ -55,16 +48,14 @@ sized-leaves (node w j i l r) h = (sized-leaves l (h .0), sized-leaves r (h .1))
 
 module _ (file : Bytes) (small : Small file) (ok : Passed file) where
   start-less : (i : ℕ) (b : Bool) → ltb i (nodeCount file) ≡ b → getD (nodes file) i noN .start < 256 ^ 4
-  unfolding nodes nodeAt nodePlace rowPlace
+  unfolding nodeAt nodePlace rowPlace
   start-less i true e =
       let h : i < nodeCount file = ltb→lt i (nodeCount file) (subst T (sym e) tt) in
-      let z : 0 + i ≡ i = omega arith in
-      subst (λ (x : Node). x .start < 256 ^ 4) (sym (listed-at (λ i. nodeAt file (nodePlace i)) 0 (nodeCount file) noN i h))
-      (number-less file (nodePlace (0 + i) + 4) 4 small (omega (arith, counts-fit file (ok .kept3) .long)))
+      subst (λ (x : Node). x .start < 256 ^ 4) (sym (node-of file i h))
+      (number-less file (nodePlace i + 4) 4 small (omega (arith, counts-fit file (ok .kept3) .long)))
   start-less i false e =
       let h : nodeCount file ≤ i = nltb→le i (nodeCount file) (subst (λ (b : Bool). T (not b)) (sym e) tt) in
-      let l : length (nodes file) ≤ i = subst (λ (n : ℕ). n ≤ i) (sym (listed-length (λ i. nodeAt file (nodePlace i)) 0 (nodeCount file))) h in
-      subst (λ (x : Node). x .start < 256 ^ 4) (sym (List·getD-eq-default (nodes file) noN l)) (unfold noPlace in omega arith)
+      subst (λ (x : Node). x .start < 256 ^ 4) (sym (List·getD-eq-default (nodes file) noN (omega (arith, nodes-length file)))) (unfold noPlace in omega arith)
 
   pub sized : Sized (tree file)
   unfolding tree

@@ -30,10 +30,7 @@ module _ (z : ℕ) where
 
 -- ---- inserts
 
--- how many inserts a process lets out
-unfoldable pub inserts : Process → ℕ
-inserts = count (worth 0 1 0)
-
+-- how many inserts are let out
 unfoldable pub letCount : List Item → ℕ
 letCount [] = 0
 letCount (ran i o ∷ xs) = letCount xs
@@ -51,13 +48,8 @@ valued-lets (sups a ∷ xs) = omega (arith, valued-lets xs)
 valued-lets (accepts a ∷ xs) = omega (arith, valued-lets xs)
 valued-lets (suppresses a ∷ xs) = omega (arith, valued-lets xs)
 
-pub inserts-items : (p : Process) → inserts p ≡ letCount (items (trace p))
-unfolding inserts
-inserts-items p = count-items (worth 0 1 0) p ∙ valued-lets (items (trace p))
-
-pub spread-bound : (t : Tree) → Lawful t → (q : Request) (s : State) → inserts (call t q s) ≤ spread t
-unfolding inserts
-spread-bound t h q s = omega (arith, call-bound 0 t h q s)
+pub spread-bound : (t : Tree) → Lawful t → (q : Request) (s : State) → letCount (items (trace (call t q s))) ≤ spread t
+spread-bound t h q s = omega (arith, call-bound 0 t h q s, count-items (worth 0 1 0) (call t q s), valued-lets (items (trace (call t q s))))
 
 -- ---- events
 

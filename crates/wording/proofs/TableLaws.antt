@@ -7,7 +7,7 @@ use mathlib.Core.List.{List}
 use lib.Dec.{T}
 use lib.ListN.{getD}
 use Rattle.policy.specs.Lists.{every, listed}
-use Rattle.text.proofs.Printable.{every-listed}
+use Rattle.text.proofs.WordLaws.{every-listed}
 use Rattle.policy.proofs.ListLaws.{listed-at}
 
 pub table-at : {A : Type 0} (f : ℕ → A) (n : ℕ) (xs : List A) → xs ≡ listed f 0 n → (d : A) (i : ℕ) → i < n → getD xs i d ≡ f i

@@ -1,45 +1,31 @@
 -- "every file that the check passes is written again byte for byte from its own records". Assumes nothing.
-use Prim.Native.Nat.{ℕ, suc, _+_, _*_, _≤_, _<_}
+use Prim.Native.Nat.{ℕ, _+_, _*_, _≤_}
 use native.Mathlib.Omega.{arith}
-use mathlib.Core.Path.{_≡_, sym, ap, ap₂, _∙_, subst}
+use mathlib.Core.Path.{_≡_, sym, ap, _∙_}
 use mathlib.Core.Bool.{not}
 use mathlib.Core.List.{_∷_, _++_}
 use lib.Dec.{eqb, eqb→eq, ltb}
 use lib.ListN.{length, take, drop, length-drop, take-append-drop}
-use lib.Seq.{take-all, drop-cons, drop-drop, length-take-le}
+use lib.Seq.{take-all, drop-drop}
 use borrow.Author.Tests.{le-ltb}
 use Rattle.actions.specs.Sets.{ActionSet}
 use Rattle.actions.proofs.Tests.{not-not, or-false-right}
-use Rattle.policy.specs.Bytes.{Bytes, spelt, number, spell}
+use Rattle.policy.specs.Bytes.{Bytes, number, spell}
 use Rattle.policy.specs.Records.{nodeSize, stepSize, lengthField, versionField, nodeCount, stepCount, nodePlace, rowPlace, nodeBytes, stepBytes}
 use Rattle.policy.specs.Parts.{file}
-use Rattle.policy.proofs.ByteLaws.{Small, small-take, small-drop, spell-spelt}
-use Rattle.policy.proofs.NumberLaws.{number-byte}
+use Rattle.policy.proofs.ByteLaws.{Small}
+use Rattle.policy.proofs.NumberLaws.{byte-first, number-first}
 use Rattle.rules.specs.Layout.{broken1, broken2}
 use Rattle.rules.specs.Passed.{Passed}
 use Rattle.rules.specs.Check.{Answer, passes, check}
-use Rattle.rules.proofs.Rows.{CountsFit, counts-fit}
+use Rattle.rules.proofs.Rows.{CountsFit, counts-fit, node-bytes-length, step-bytes-length}
 use Rattle.rules.proofs.Passed.{passed}
 use Rattle.writing.specs.Writing.{holds, written, laid, after}
 use Rattle.writing.specs.Lent.{Lent}
 use Rattle.writing.specs.Promises.{WrittenAgain}
 use Rattle.writing.proofs.Files.{holds-is, by-check}
-use Rattle.writing.proofs.ReadBack.{node-bytes-length, step-bytes-length}
 
 module _ (made : Bytes) (small : Small made) where
-  -- a number read at place i, spelt again before what follows it
-  spelt-on : (i k : ℕ) → i + k ≤ length made → spell k (number made i k) ++ drop (i + k) made ≡ drop i made
-  unfolding number
-  spelt-on i k h =
-      let part : Bytes = take k (drop i made) in
-      let e : length part ≡ k = length-take-le k (drop i made) (simp length-drop (omega arith)) in
-      let s : spell k (spelt 0 part) ≡ part = subst (λ (j : ℕ). spell j (spelt 0 part) ≡ part) e (spell-spelt 0 part (small-take k (drop i made) (small-drop i made small))) in
-      ap₂ _++_ s (sym (drop-drop k i made)) ∙ take-append-drop k (drop i made)
-
-  -- the same of a byte
-  byte-on : (i : ℕ) → i < length made → number made i 1 ∷ drop (suc i) made ≡ drop i made
-  byte-on i h = ap (λ (b : ℕ). b ∷ drop (suc i) made) (number-byte made i h) ∙ sym (drop-cons made i 0 h)
-
   module _ (ok : Passed made) where
     c : CountsFit made
     c = counts-fit made (ok .kept3)
@@ -73,10 +59,10 @@ module _ (made : Bytes) (small : Small made) where
         omega (arith, nodes-held, steps-held, sized, c .long) in
         let long : 6 ≤ length made = omega (arith, c .long) in
         (λ x. spell 2 (l x) ++ (sym versioned x ∷ nodes-held x ∷ (spell 2 (steps-held x) ++ joined x)))
-        ∙ ap (λ (zs : Bytes). spell 2 (number made 0 2) ++ (number made 2 1 ∷ number made 3 1 ∷ zs)) (spelt-on 4 2 long)
-        ∙ ap (λ (zs : Bytes). spell 2 (number made 0 2) ++ (number made 2 1 ∷ zs)) (byte-on 3 (omega arith))
-        ∙ ap (λ (zs : Bytes). spell 2 (number made 0 2) ++ zs) (byte-on 2 (omega arith))
-        ∙ spelt-on 0 2 (omega arith)
+        ∙ ap (λ (zs : Bytes). spell 2 (number made 0 2) ++ (number made 2 1 ∷ number made 3 1 ∷ zs)) (number-first made small 4 2 long)
+        ∙ ap (λ (zs : Bytes). spell 2 (number made 0 2) ++ (number made 2 1 ∷ zs)) (byte-first made 3 (omega arith))
+        ∙ ap (λ (zs : Bytes). spell 2 (number made 0 2) ++ zs) (byte-first made 2 (omega arith))
+        ∙ number-first made small 0 2 (omega arith)
 
     pub own-lent : Lent (nodeBytes made) (stepBytes made)
     own-lent = record {

@@ -1,24 +1,24 @@
 -- "Whatever it writes is read back by the check as the same records", and why the writer refuses. Assumes nothing.
 use Prim.Native.Nat.{ℕ, zero, suc, _+_, _*_, _≤_, _<_}
-use native.Mathlib.Nat.{add-assoc}
 use native.Mathlib.Omega.{arith}
 use mathlib.Core.Path.{_≡_, refl, sym, ap, ap₂, _∙_, subst}
 use mathlib.Core.Bool.{Bool, true, false, _&&_}
 use mathlib.Core.List.{List, _∷_}
 use lib.Dec.{T, leb, ltb, leb→le}
-use lib.ListN.{length, take, drop, length-drop}
-use lib.Seq.{take-at, drop-at, take-all, drop-drop, length-take-le}
+use lib.ListN.{length, take, drop}
+use lib.Seq.{take-at, drop-at, take-all, drop-drop}
 use borrow.Author.Tests.{ltb-true, ltb-false}
 use Rattle.actions.proofs.Tests.{and-left, and-right, true-not-false}
-use Rattle.policy.specs.Bytes.{Bytes, number, spell, put}
+use Rattle.policy.specs.Bytes.{Bytes, spell, put}
 use Rattle.policy.specs.Lists.{listed, every}
 use Rattle.policy.specs.Records.{nodeSize, stepSize, nodeCount, stepCount, nodeAt, rowAt, nodePlace, rowPlace, nodes, rows, nodeBytes, stepBytes}
 use Rattle.policy.specs.Tree.{regulated, tree}
 use Rattle.policy.specs.Parts.{file}
-use Rattle.policy.proofs.ByteLaws.{number-part, drop-after}
+use Rattle.policy.proofs.ByteLaws.{drop-after}
+use Rattle.policy.proofs.PartLaws.{node-part, row-part}
 use Rattle.rules.specs.Interference.{effects}
 use Rattle.rules.specs.Check.{Rule, rules, Answer, passes, refused, check}
-use Rattle.rules.proofs.Rows.{CountsFit, counts-fit}
+use Rattle.rules.proofs.Rows.{CountsFit, counts-fit, node-bytes-length, step-bytes-length}
 use Rattle.rules.proofs.Passed.{Lowest, here, after, passed, passes-all, refused-lowest}
 use Rattle.writing.specs.Writing as writing
 use Rattle.writing.specs.Writing.{holds, written, wrote, refuses, Result, refusal, laid, writes}
@@ -35,53 +35,20 @@ unfolding listed
 listed-same f g i zero h = refl
 listed-same f g i (suc n) h = ap₂ _∷_ (h i (omega arith)) (listed-same f g (suc i) n (λ j l. h j (omega arith)))
 
-module _ (bs : Bytes) (i n : ℕ) (inside : i + n ≤ length bs) (at : ℕ) where
-  field : (k size : ℕ) → at + k + size ≤ n → number (take n (drop i bs)) (at + k) size ≡ number bs (i + at + k) size
-  field k size h = number-part bs i n (at + k) size h inside ∙ ap (λ (j : ℕ). number bs j size) (sym (add-assoc i at k))
-
-  node-part : at + nodeSize ≤ n → nodeAt (take n (drop i bs)) at ≡ nodeAt bs (i + at)
-  unfolding nodeAt
-  node-part h = λ x. record {
-    kind = number-part bs i n at 1 (omega arith) inside x;
-    left = field 1 1 (omega arith) x;
-    right = field 2 1 (omega arith) x;
-    count = field 3 1 (omega arith) x;
-    start = field 4 4 (omega arith) x;
-    set = field 8 8 (omega arith) x;
-  }
-
-  row-part : at + stepSize ≤ n → rowAt (take n (drop i bs)) at ≡ rowAt bs (i + at)
-  unfolding rowAt
-  row-part h = λ x. record {
-    kind = number-part bs i n at 1 (omega arith) inside x;
-    action = field 1 1 (omega arith) x;
-    first = field 2 1 (omega arith) x;
-    second = field 3 1 (omega arith) x;
-    operand = field 4 8 (omega arith) x;
-  }
-
 module _ (made : Bytes) (f : CountsFit made) where
-  pub node-bytes-length : length (nodeBytes made) ≡ nodeSize * nodeCount made
-  unfolding nodeBytes rowPlace nodePlace
-  node-bytes-length = length-take-le (nodeSize * nodeCount made) (drop 6 made) (simp length-drop (omega (arith, f .long)))
-
-  pub step-bytes-length : length (stepBytes made) ≡ stepSize * stepCount made
-  unfolding stepBytes rowPlace nodePlace
-  step-bytes-length = length-take-le (stepSize * stepCount made) (drop (6 + nodeSize * nodeCount made) made) (simp length-drop (omega (arith, f .long)))
-
   pub nodes-spelt : nodes made ≡ nodesLent (nodeBytes made)
   unfolding nodes nodesLent nodeBytes rowPlace nodePlace
   nodes-spelt =
       listed-same (λ i. nodeAt made (6 + nodeSize * i)) (λ i. nodeAt (nodeBytes made) (nodeSize * i)) 0 (nodeCount made)
       (λ j h. sym (node-part made 6 (nodeSize * nodeCount made) (omega (arith, f .long)) (nodeSize * j) (omega arith)))
-      ∙ ap (λ (k : ℕ). listed (λ i. nodeAt (nodeBytes made) (nodeSize * i)) 0 k) (sym (holds-is nodeSize (nodeCount made) (nodeBytes made) (omega arith) node-bytes-length))
+      ∙ ap (λ (k : ℕ). listed (λ i. nodeAt (nodeBytes made) (nodeSize * i)) 0 k) (sym (holds-is nodeSize (nodeCount made) (nodeBytes made) (omega arith) (node-bytes-length made f)))
 
   pub rows-spelt : rows made ≡ rowsLent (stepBytes made)
   unfolding rows rowsLent stepBytes rowPlace nodePlace
   rows-spelt =
       listed-same (λ i. rowAt made (6 + nodeSize * nodeCount made + stepSize * i)) (λ i. rowAt (stepBytes made) (stepSize * i)) 0 (stepCount made)
       (λ j h. sym (row-part made (6 + nodeSize * nodeCount made) (stepSize * stepCount made) (omega (arith, f .long)) (stepSize * j) (omega arith)))
-      ∙ ap (λ (k : ℕ). listed (λ i. rowAt (stepBytes made) (stepSize * i)) 0 k) (sym (holds-is stepSize (stepCount made) (stepBytes made) (omega arith) step-bytes-length))
+      ∙ ap (λ (k : ℕ). listed (λ i. rowAt (stepBytes made) (stepSize * i)) 0 k) (sym (holds-is stepSize (stepCount made) (stepBytes made) (omega arith) (step-bytes-length made f)))
 
 -- ---- a written file's are those lent
 

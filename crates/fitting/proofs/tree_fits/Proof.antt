@@ -7,10 +7,11 @@ use lib.Dec.{lit<}
 use lib.ListN.{length, length-set}
 use Rattle.policy.specs.Bytes.{Bytes}
 use Rattle.policy.specs.Records.{nodeSize, nodeCount, nodeAt}
-use Rattle.surveying.specs.First.{firstStep}
+use Rattle.policy.specs.Tree.{firstStep}
+use Rattle.policy.proofs.NodeLaws.{first-over}
+use Rattle.rules.proofs.Rows.{all-owned}
 use Rattle.records.proofs.Frame.{node-place}
-use Rattle.surveying.proofs.LeafLaws.{first-over}
-use Rattle.fitting.proofs.FileLaws.{frame, all-steps, inside, counts, step-back}
+use Rattle.fitting.proofs.FileLaws.{frame, inside, counts, step-back}
 use Rattle.fitting.proofs.TreeLaws.{Known, known-more, root}
 use Rattle.fitting.proofs.tree_fits.Statement.{statement}
 use Rattle.fitting.proofs.tree_fits.Tie as tie
@@ -35,7 +36,7 @@ loop-holds c =
     let s = c .before .before .before in
     let f = frame (s .pre .0 .0) in (
       omega arith,
-      omega (arith, c .node-place .ensures, node-place (s .args .n), first-over (s .args .policy .now) (s .args .n) (omega arith), all-steps (s .pre .0 .0)),
+      omega (arith, c .node-place .ensures, node-place (s .args .n), first-over (s .args .policy .now) (s .args .n) (omega arith), all-owned _ (s .pre .0 .0 .kept6)),
       refl,
       λ k h l. absurd (omega arith),
     )

@@ -4,9 +4,10 @@ use Prim.Native.Nat.{ℕ, _*_, _≤_, _-_}
 use native.Mathlib.Omega.{arith}
 use mathlib.Core.Path.{_≡_, ap, _∙_}
 use lib.Dec.{eqb}
-use Rattle.surveying.specs.First.{firstStep}
+use Rattle.policy.specs.Tree.{firstStep}
+use Rattle.policy.proofs.NodeLaws.{first-none, first-over}
 use Rattle.records.proofs.Frame.{node-inside}
-use Rattle.surveying.proofs.LeafLaws.{first-none, first-over, Counted, counted}
+use Rattle.surveying.proofs.LeafLaws.{Counted, counted}
 use Rattle.surveying.proofs.all_owned.Statement.{statement}
 use Rattle.surveying.proofs.all_owned.Tie as tie
 

@@ -10,10 +10,11 @@ use Rattle.policy.specs.Bytes.{Bytes}
 use Rattle.policy.specs.Lists.{summed}
 use Rattle.policy.specs.Records.{nodeSize, nodes}
 use Rattle.policy.specs.Tree.{owned}
+use Rattle.policy.proofs.NodeLaws.{first-none}
 use Rattle.records.specs.Frame.{Framed}
 use Rattle.records.proofs.Frame.{node-place, node-inside}
 use Rattle.rules.specs.Layout.{broken4}
-use Rattle.surveying.proofs.LeafLaws.{first-none, Counted, counted, inside-here}
+use Rattle.surveying.proofs.LeafLaws.{Counted, counted, inside-here}
 use Rattle.surveying.proofs.WalkLaws.{Walking, walk-starts, walk-goes, walk-stops, found-six, found-seven, found-eight, found-none}
 use Rattle.surveying.proofs.walk_leaves.Statement.{statement}
 use Rattle.surveying.proofs.walk_leaves.Tie as tie

@@ -4,10 +4,10 @@ use mathlib.Core.Path.{sym, ap, _∙_}
 use Prim.Native.Nat.{ℕ, _*_}
 use lib.ListN.{length, drop}
 use Rattle.policy.specs.Bytes.{put}
-use Rattle.text.specs.Forms.{node, size, recordOf}
+use Rattle.text.specs.Forms.{node, step, size, recordOf}
 use Rattle.text.specs.Reading.{readLines}
+use Rattle.text.proofs.RecordLaws.{record-size}
 use Rattle.transcribing.proofs.CopyLaws.{node-room, few-steps, node-copied, step-room, step-copied, none-copied}
-use Rattle.transcribing.proofs.WrittenLaws.{node-length, step-length}
 use Rattle.transcribing.proofs.copy_line.Statement.{statement}
 use Rattle.transcribing.proofs.copy_line.Tie as tie
 
@@ -86,11 +86,11 @@ returns-3 c =
 
 slice-aggregate-store : tie.Need-slice-aggregate-store
 unfolding size
-slice-aggregate-store c = sym (ap length (c .before .before .before .node-bytes .ensures) ∙ node-length _ _)
+slice-aggregate-store c = sym (ap length (c .before .before .before .node-bytes .ensures) ∙ record-size node _ _)
 
 slice-aggregate-store-2 : tie.Need-slice-aggregate-store-2
 unfolding size
-slice-aggregate-store-2 c = sym (ap length (c .before .before .before .step-bytes .ensures) ∙ step-length _)
+slice-aggregate-store-2 c = sym (ap length (c .before .before .before .step-bytes .ensures) ∙ record-size step 0 _)
 
 pub copy-line-spec : {M : Type 1} → statement M
 copy-line-spec =
