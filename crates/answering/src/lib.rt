@@ -1,4 +1,4 @@
-// What a call answers: the verdict's event, and the call's end.
+// What a call asks and answers: its request, the verdict's event, and the call's end.
 ghost use mathlib.Core.Path.{_≡_};
 ghost use mathlib.Core.List.{[], _∷_};
 ghost use Prim.Native.Nat.{_+_, _*_, _≤_};
@@ -15,6 +15,13 @@ ghost use Rattle.memory.specs.Memory.{view, held};
 ghost use Rattle.answering.specs.Ends.{verdicts, Added, Ended};
 use reading::byte;
 use resting::tidy::tidy;
+
+// Which call it is.
+pub enum Call {
+    Open,
+    Offer(u8),
+    Close,
+}
 
 // The number of events and the root's status, or a refusal number.
 pub enum Answer {

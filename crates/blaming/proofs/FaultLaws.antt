@@ -1,20 +1,25 @@
 -- Laws of what was expected in a line. Assumes nothing.
-use Prim.Native.Nat.{ℕ, zero, suc, _<_}
+use Prim.Native.Nat.{ℕ, zero, suc, _+_, _≤_, _<_}
 use native.Mathlib.Omega.{arith}
 use mathlib.Core.Path.{_≡_, refl, sym, ap, ap₂, _∙_}
 use mathlib.Core.Bool.{Bool, true, false}
 use mathlib.Core.List.{List, []}
-use lib.Dec.{ltb}
+use mathlib.Core.Option.{Option, none, some}
+use lib.Dec.{ltb, leb, leb→le, lit≤}
+use lib.ListN.{length, length-append}
 use lib.Seq.{slice, slice-empty}
 use borrow.Author.Tests.{le-ltb, eq-eqb, ne-eqb, ltb-false}
 use Rattle.policy.specs.Bytes.{Bytes}
-use Rattle.text.specs.Words.{ascii, words}
-use Rattle.text.specs.Forms.{Fields, named}
-use Rattle.text.specs.Reading.{Line, lineOf}
+use Rattle.policy.specs.Lists.{every}
+use Rattle.text.specs.Words.{ascii, sameBytes, words}
+use Rattle.text.specs.Forms.{Fields, Form, forms, named}
+use Rattle.text.specs.Reading.{Line, nothing, unreadable, entry, lineOf}
+use Rattle.text.proofs.TableLaws.{first-passes}
 use Rattle.scanning.specs.Scanned.{Next, wordAnd}
 use Rattle.wording.specs.Tables.{formCount, lineMeant}
 use Rattle.measuring.proofs.CountLaws.{meant-entry}
-use Rattle.blaming.specs.Expected.{expected, firstWord, astray, fault, roomBefore, lineNumber, faultIn}
+use Rattle.spelling.proofs.AddedLaws.{decimal-below}
+use Rattle.blaming.specs.Expected.{heading, lineSays, usages, usage, expected, firstWord, astray, fault, roomBefore, lineNumber, faultIn}
 
 pub first-is : (line : Bytes) (start end : ℕ) → Next line 0 start end → firstWord (words line) ≡ slice start end line
 unfolding wordAnd firstWord
@@ -52,3 +57,29 @@ astray-full (suc r) n = refl
 pub fault-in : (text : Bytes) (n : ℕ) (line : Bytes) (room : ℕ) → lineNumber text n ≡ line → room ≡ roomBefore text n → fault (lineOf (words line)) (words line) room ≡ faultIn text n
 unfolding faultIn
 fault-in text n line room e f = sym (ap₂ (λ (l : Bytes) (r : ℕ). fault (lineOf (words l)) (words l) r) e (sym f))
+
+-- ---- how long they are
+
+abbrev short : Form → Bool
+short f = leb (length (usage f)) 101
+
+named-short : (w : Bytes) (o : Option Form) → named w ≡ o → length (expected o) ≤ 101
+unfolding expected named every forms usage usages ascii
+named-short w none e = lit≤ tt
+named-short w (some f) e = leb→le (length (usage f)) 101 (first-passes (λ g. sameBytes (ascii (g .name)) w) short f forms tt e)
+
+fault-short : (l : Line) (ws : List Bytes) (room : ℕ) → length (fault l ws room) ≤ 101
+unfolding fault astray ascii
+fault-short nothing ws room = lit≤ tt
+fault-short unreadable ws room = named-short (firstWord ws) (named (firstWord ws)) refl
+fault-short (entry f xs) ws zero = lit≤ tt
+fault-short (entry f xs) ws (suc r) = lit≤ tt
+
+-- of a number of the machine, which has at most 20 digits
+pub says-short : (n : ℕ) (what : Bytes) → n < 18_446_744_073_709_551_616 → length (lineSays n what) ≤ 28 + length what
+unfolding lineSays heading ascii
+says-short n what h = simp length-append (omega (arith, decimal-below 19 n (omega arith)))
+
+pub fault-in-short : (text : Bytes) (n : ℕ) → length (faultIn text n) ≤ 101
+unfolding faultIn
+fault-in-short text n = fault-short (lineOf (words (lineNumber text n))) (words (lineNumber text n)) (roomBefore text n)

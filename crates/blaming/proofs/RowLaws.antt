@@ -5,8 +5,7 @@ use mathlib.Core.Path.{_≡_, refl, sym, ap, _∙_}
 use mathlib.Core.Bool.{_&&_}
 use mathlib.Core.List.{[]}
 use lib.Dec.{leb, leb→le}
-use lib.ListN.{length, take, drop, length-drop}
-use lib.Seq.{length-take-le}
+use lib.ListN.{length, take, drop}
 use Rattle.actions.proofs.Tests.{and-left, and-right}
 use Rattle.policy.specs.Bytes.{Bytes}
 use Rattle.policy.specs.Lists.{every, listed}
@@ -24,14 +23,13 @@ row-at i h =
     sym (table-at (λ k. take (rowEnd (k + 1) - rowEnd k) (drop (rowEnd k) rowText)) rowCount (listed row 0 rowCount) refl [] i h)
     ∙ table-at row rowCount (listed row 0 rowCount) refl [] i h
 
-row-inside : (i : ℕ) → i < rowCount → (rowEnd i ≤ rowEnd (i + 1)) × (rowEnd (i + 1) ≤ 289) × (rowEnd (i + 1) ≤ rowEnd i + 101)
+row-inside : (i : ℕ) → i < rowCount → (rowEnd i ≤ rowEnd (i + 1)) × (rowEnd (i + 1) ≤ 289)
 unfolding listed every row joinedRows rowEnd expected usage usages ascii forms formsFrom headOf
 row-inside i h =
-    let t = tested-at (λ k. leb (rowEnd k) (rowEnd (k + 1)) && (leb (rowEnd (k + 1)) 289 && leb (rowEnd (k + 1)) (rowEnd k + 101))) rowCount tt i h in
     let p = leb (rowEnd i) (rowEnd (i + 1)) in
     let q = leb (rowEnd (i + 1)) 289 in
-    let r = leb (rowEnd (i + 1)) (rowEnd i + 101) in
-    (leb→le (rowEnd i) (rowEnd (i + 1)) (and-left p (q && r) t), leb→le (rowEnd (i + 1)) 289 (and-left q r (and-right p (q && r) t)), leb→le (rowEnd (i + 1)) (rowEnd i + 101) (and-right q r (and-right p (q && r) t)))
+    let t = tested-at (λ k. leb (rowEnd k) (rowEnd (k + 1)) && leb (rowEnd (k + 1)) 289) rowCount tt i h in
+    (leb→le (rowEnd i) (rowEnd (i + 1)) (and-left p q t), leb→le (rowEnd (i + 1)) 289 (and-right p q t))
 
 row-length : length rowText ≡ 289
 unfolding listed row joinedRows rowText expected usage usages ascii forms formsFrom headOf
@@ -44,8 +42,6 @@ row-other form h = form-none form h ∙ sym (form-none 15 (omega arith))
 pub record Part (t : Bytes) (from to i : ℕ) : Type 0 where
   pub ordered : from ≤ to
   pub inside : to ≤ length t
-  pub short : to ≤ from + 101
-  pub size : length (take (to - from) (drop from t)) ≡ to - from
   pub is : take (to - from) (drop from t) ≡ row i
 
 pub row-part : {t : Bytes} {from to i : ℕ} → t ≡ rowText → from ≡ rowEnd i → to ≡ rowEnd (i + 1) → i ≤ 15 → Part t from to i
@@ -53,13 +49,9 @@ row-part {t} {from} {to} {i} e f g h =
     let n : i < rowCount = omega arith in
     let b = row-inside i n in
     let l : length t ≡ 289 = ap length e ∙ row-length in
-    let w : to ≤ length t = omega (arith, b .1) in
-    let o : from ≤ to = omega (arith, b .0) in
     record {
-      ordered = o;
-      inside = w;
-      short = omega (arith, b .2);
-      size = length-take-le (to - from) (drop from t) (rw (length-drop from t) (omega arith));
+      ordered = omega (arith, b .0);
+      inside = omega (arith, b .1);
       is = ap (λ (x : ℕ). take (to - x) (drop x t)) f ∙ ap (λ (x : ℕ). take (x - rowEnd i) (drop (rowEnd i) t)) g
           ∙ ap (λ (x : Bytes). take (rowEnd (i + 1) - rowEnd i) (drop (rowEnd i) x)) e ∙ row-at i n;
     }

@@ -2,7 +2,7 @@
 use Prim.Native.Nat.{ℕ, _≤_}
 use mathlib.Core.Path.{_≡_}
 use mathlib.Core.List.{List, [], _∷_, _++_}
-use lib.ListN.{length, getD, take, drop}
+use lib.ListN.{length, getD, drop}
 use Rattle.policy.specs.Bytes.{Bytes}
 use Rattle.policy.specs.Lists.{listed}
 use Rattle.text.specs.Words.{lines}
@@ -13,11 +13,6 @@ use Rattle.blaming.specs.Expected.{expected, lineNumber}
 pub record Starts (text : Bytes) (n start : ℕ) : Type 0 where
   pub inside : start ≤ length text
   pub is : lineNumber text n ≡ getD (lines (drop start text)) 0 []
-
--- The buffer begins with these bytes, up to `end`.
-pub record Tells (buffer : Bytes) (end : ℕ) (what : Bytes) : Type 0 where
-  pub text : take end buffer ≡ what
-  pub inside : end ≤ length buffer
 
 -- ---- what is expected, by the places of the table of lines: one text after another, and past the last form that of any other word
 

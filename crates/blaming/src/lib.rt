@@ -8,9 +8,9 @@ ghost use Rattle.text.specs.Words.{lines, words};
 ghost use Rattle.text.specs.Forms.{Fields};
 ghost use Rattle.text.specs.Reading.{Line, lineOf};
 ghost use Rattle.wording.specs.Tables.{formsFrom, lineMeant};
-ghost use Rattle.spelling.specs.Appended.{Appended};
+ghost use Rattle.spelling.specs.Added.{Added};
 ghost use Rattle.blaming.specs.Expected.{heading, lineSays, expected, astray, fault, roomAfter, roomBefore, faultIn};
-ghost use Rattle.blaming.specs.Places.{Starts, Tells, rowCount, rowText, rowEnd};
+ghost use Rattle.blaming.specs.Places.{Starts, rowCount, rowText, rowEnd};
 use measuring::line_at;
 use measuring::line_end;
 use scanning::next_word;
@@ -146,8 +146,7 @@ fn row_of(form: usize) -> usize
 
 // By the form of the line's first word.
 fn usage(form: usize, out: &mut [u8], at: usize) -> usize
-    requires { ⌜ at + 101 ≤ length (now out) ⌝ }
-    ensures { λ r. ⌜ Appended (now (out .entry)) at (expected (formsFrom form)) (now (out .exit)) r × (r ≤ at + 101) ⌝ }
+    ensures { λ r. ⌜ Added (now (out .entry)) at (expected (formsFrom form)) (now (out .exit)) r ⌝ }
 {
     let table = rows();
     let row = row_of(form);
@@ -158,8 +157,7 @@ fn usage(form: usize, out: &mut [u8], at: usize) -> usize
 
 // Of a step that could be read.
 fn misplaced(room: usize, out: &mut [u8], at: usize) -> usize
-    requires { ⌜ at + 101 ≤ length (now out) ⌝ }
-    ensures { λ r. ⌜ Appended (now (out .entry)) at (astray room) (now (out .exit)) r × (r ≤ at + 101) ⌝ }
+    ensures { λ r. ⌜ Added (now (out .entry)) at (astray room) (now (out .exit)) r ⌝ }
 {
     if room == 0 {
         return append(out, at, b"a leaf before its steps");
@@ -169,8 +167,7 @@ fn misplaced(room: usize, out: &mut [u8], at: usize) -> usize
 
 // Of any line, where so many steps might follow the last node.
 fn expect(line: &[u8], room: usize, out: &mut [u8], at: usize) -> usize
-    requires { ⌜ at + 101 ≤ length (now out) ⌝ }
-    ensures { λ r. ⌜ Appended (now (out .entry)) at (fault (lineOf (words (now (line .entry)))) (words (now (line .entry))) room) (now (out .exit)) r × (r ≤ at + 101) ⌝ }
+    ensures { λ r. ⌜ Added (now (out .entry)) at (fault (lineOf (words (now (line .entry)))) (words (now (line .entry))) room) (now (out .exit)) r ⌝ }
 {
     let read = read_line(line);
     let form = read.form;
@@ -189,8 +186,7 @@ fn expect(line: &[u8], room: usize, out: &mut [u8], at: usize) -> usize
 // ---- the line that is said
 
 pub fn begin(n: usize, out: &mut [u8]) -> usize
-    requires { ⌜ 27 ≤ length (now out) ⌝ }
-    ensures { λ r. ⌜ Appended (now (out .entry)) 0 (heading n) (now (out .exit)) r × (r ≤ 27) ⌝ }
+    ensures { λ r. ⌜ Added (now (out .entry)) 0 (heading n) (now (out .exit)) r ⌝ }
 {
     let named = append(out, 0, b"line ");
     let numbered = append_number(out, named, n as u64);
@@ -199,8 +195,7 @@ pub fn begin(n: usize, out: &mut [u8]) -> usize
 
 // Puts what is said of line n at the start of `out`.
 pub fn bad_line(text: &[u8], n: usize, out: &mut [u8]) -> usize
-    requires { ⌜ 129 ≤ length (now out) ⌝ }
-    ensures { λ r. ⌜ Tells (now (out .exit)) r (lineSays n (faultIn (now (text .entry)) n)) ⌝ }
+    ensures { λ r. ⌜ Added (now (out .entry)) 0 (lineSays n (faultIn (now (text .entry)) n)) (now (out .exit)) r ⌝ }
 {
     let start = line_start(text, n);
     let end = line_end(text, start);

@@ -27,8 +27,9 @@ use Rattle.tables.proofs.FileNodes.{room}
 use Rattle.memory.proofs.Begin.{held-status}
 use Rattle.answering.specs.declared.Answer.{Answer}
 use Rattle.answering.specs.declared.Answer.the-variants.{Answered}
-use Rattle.calling.specs.declared.Call.{Call}
-use Rattle.calling.specs.Calls.{asked, Counted, Allowed}
+use Rattle.answering.specs.declared.Call.{Call}
+use Rattle.answering.specs.Requests.{asked}
+use Rattle.calling.specs.Calls.{Counted, Allowed}
 use Rattle.answering.specs.Replies.{spoken, Gave}
 use Rattle.calling.specs.Parts.{Played}
 use Rattle.answering.specs.Ends.{verdicts, Added, Ended}

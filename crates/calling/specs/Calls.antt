@@ -1,4 +1,4 @@
--- Which call it is, and what it asks: all that the entry points' refusals leave. Assumes nothing.
+-- What a call may ask: all that the entry points' refusals leave. Assumes nothing.
 use Prim.Native.Nat.{ℕ, _≤_}
 use mathlib.Core.Path.{_≡_}
 use mathlib.Core.Bool.{Bool, true}
@@ -7,16 +7,9 @@ use lib.ListN.{length}
 use Rattle.policy.specs.Bytes.{Bytes}
 use Rattle.policy.specs.Records.{nodeCount, stepCount}
 use Rattle.rules.specs.Passed.{Passed}
-use Rattle.turns.specs.Turn.{Request, opening, offer, close}
 use Rattle.turns.specs.Saved.{fits}
-use Rattle.calling.specs.declared.Call.{Call}
-use Rattle.calling.specs.declared.Call.the-variants.{Open, Offer, Close}
-
--- the request that the code's case stands for
-unfoldable pub asked : Call → Request
-asked Open = opening
-asked (Offer a) = offer a
-asked Close = close
+use Rattle.answering.specs.declared.Call.{Call}
+use Rattle.answering.specs.declared.Call.the-variants.{Open, Offer, Close}
 
 -- Does the state that the call reads fit the policy? Opening reads none.
 unfoldable pub readable : Call → Bytes → Bytes → Bool

@@ -1,7 +1,7 @@
 // A call that no rule refuses, carried out: the phases of the root, the verdict between them, the state tidied at the end.
 ghost use mathlib.Core.Path.{_≡_};
 ghost use mathlib.Core.Bool.{true};
-ghost use Prim.Native.Nat.{_+_, _*_, _≤_};
+ghost use Prim.Native.Nat.{_≤_};
 ghost use lib.ListN.{length};
 ghost use Rattle.policy.specs.Tree.{regulated, tree};
 ghost use Rattle.rules.specs.Passed.{Passed};
@@ -10,11 +10,13 @@ ghost use Rattle.turns.specs.Turn.{before, opening, isAsked, call};
 ghost use Rattle.turns.specs.Entries.{carried, carriedOut};
 ghost use Rattle.memory.specs.Memory.{phaseOf, view, held};
 ghost use Rattle.starting.specs.Ready.{Ready};
-ghost use Rattle.calling.specs.declared.Call.the-variants.{Open, Offer, Close};
-ghost use Rattle.calling.specs.Calls.{asked, Counted, Allowed};
+ghost use Rattle.calling.specs.Calls.{Counted, Allowed};
 ghost use Rattle.calling.specs.Parts.{Played};
+ghost use Rattle.answering.specs.declared.Call.the-variants.{Open, Offer, Close};
+ghost use Rattle.answering.specs.Requests.{asked};
 ghost use Rattle.answering.specs.Replies.{Gave};
 use answering::Answer;
+use answering::Call;
 use answering::finish;
 use answering::judge;
 use answering::say;
@@ -24,13 +26,6 @@ use starting::asks;
 use tables::prepare;
 use views::PolicyView;
 use views::view_of;
-
-// Which call it is.
-pub enum Call {
-    Open,
-    Offer(u8),
-    Close,
-}
 
 const BEFORE: u8 = 0;
 

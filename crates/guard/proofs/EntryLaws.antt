@@ -17,7 +17,7 @@ use Rattle.turns.specs.Entries.{Result, refusal, carriedOut, broken11, broken12
 use Rattle.turns.proofs.Answered.{kept-11}
 use Rattle.answering.specs.declared.Answer.{Answer}
 use Rattle.answering.specs.declared.Answer.the-variants as answers
-use Rattle.calling.specs.declared.Call.{Call}
+use Rattle.answering.specs.declared.Call.{Call}
 use Rattle.calling.specs.Calls.{readable, Allowed}
 use Rattle.answering.specs.Replies.{spoken, Gave}
 

@@ -2,7 +2,7 @@
 ghost use Rattle.turns.specs.Entries.{opens, offers, closes};
 ghost use Rattle.answering.specs.Replies.{Gave};
 use answering::Answer;
-use calling::Call;
+use answering::Call;
 use calling::carry_out;
 use checking::Checked;
 use checking::check;

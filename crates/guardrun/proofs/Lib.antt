@@ -1,4 +1,3 @@
-pub mod CallLaws
+mod SpokenLaws
 pub mod EndLaws
-pub mod TextLaws
 pub mod Worked

@@ -1,4 +1,3 @@
-pub mod Text
-pub mod Said
-pub mod Buffer
+pub mod Spoke
+pub mod Printed
 pub mod Worked

@@ -5,8 +5,8 @@ use mathlib.Core.List.{List, [], _∷_, _++_, map}
 use lib.ListN.{take}
 use Rattle.policy.specs.Bytes.{Bytes}
 use Rattle.policy.specs.Parts.{alone, pair, top, bottom, L, «V», W, built}
-use Rattle.guardrun.specs.Text.{ascii}
-use Rattle.guardrun.specs.Said.{printed}
+use Rattle.text.specs.Words.{ascii}
+use Rattle.guardrun.specs.Printed.{printed}
 
 pub record Case : Type 0 where
   pub input : Bytes

@@ -1,5 +1,5 @@
 // guardrun: reads a policy and then actions, a byte each, on standard input, and prints what the guard answers. Proved is the text of each
-// call (`calls`, `text`): it is what `specs/Said` says of the definition's result. Not proved, for no contract of the kit's can say it:
+// call (`tell`): it is what `said` says of the definition's result. Not proved, for no contract of the kit's can say it:
 // that the bytes which `read` leaves are those that came in, and that the texts handed to `write` come out, in their order. A read that
 // fails counts as the end of the input; a write that fails ends the run.
 ghost use mathlib.Core.Path.{_≡_};
@@ -7,16 +7,15 @@ ghost use mathlib.Core.Bool.{true, false};
 ghost use Prim.Native.Nat.{_≤_};
 ghost use lib.ListN.{length};
 ghost use Rattle.policy.specs.Bytes.{number};
-ghost use Rattle.guardrun.specs.Said.{policyEnd};
-use crate::calls::Told;
+ghost use Rattle.guardrun.specs.Printed.{policyEnd};
 use crate::calls::tell;
-use calling::Call;
+use answering::Call;
 use libc::STDIN_FILENO;
 use libc::STDOUT_FILENO;
 use reading::word16;
+use reporting::Told;
 
 mod calls;
-mod text;
 
 // "the first two bytes say how many bytes, at most 6,646 taken": where the policy ends, the two bytes with it.
 fn policy_end(policy: &[u8]) -> usize

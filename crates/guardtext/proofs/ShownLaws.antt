@@ -1,28 +1,26 @@
 -- What is printed of a file, as the code finds it. Assumes nothing.
 use Prim.Native.Nat.{ℕ, _+_, _-_, _*_, _≤_, _<_}
 use native.Mathlib.Omega.{arith}
-use mathlib.Core.Path.{_≡_, refl, sym, ap, _∙_, subst}
-use lib.ListN.{length, take, drop, length-append, length-take, length-drop}
-use lib.Seq.{take-all}
+use mathlib.Core.Path.{_≡_, refl, sym, ap, ap₂, _∙_, subst}
+use lib.ListN.{length, take, drop, length-take}
 use borrow.Author.Tests.{lt-ltb, le-ltb, le-leb}
+use Rattle.actions.specs.Sets.{ActionSet}
 use Rattle.policy.specs.Bytes.{Bytes, number}
-use Rattle.policy.specs.Records.{nodeCount, nodePlace, rowPlace}
-use Rattle.rules.specs.Check.{Answer, check}
+use Rattle.policy.specs.Records.{nodeCount, stepCount, nodePlace, rowPlace, nodeBytes, stepBytes}
+use Rattle.policy.proofs.ByteLaws.{Small}
+use Rattle.rules.specs.Check.{Answer, passes, check}
 use Rattle.rules.specs.Passed.{Passed}
+use Rattle.rules.proofs.Passed.{passed}
 use Rattle.rules.proofs.Rows.{CountsFit, counts-fit}
-use Rattle.text.specs.Words.{ascii}
 use Rattle.text.specs.Printing.{Print, text, noText, printed}
+use Rattle.text.proofs.Printable.{read-printed}
+use Rattle.spelling.specs.Refusal.{refusal}
 use Rattle.printing.specs.declared.Printed.{Printed}
 use Rattle.printing.specs.declared.Printed.the-variants.{Text, NoText, Short}
 use Rattle.printing.specs.Printing.{given, Gave}
 use Rattle.printing.proofs.PrintLaws.{text-inside}
 use Rattle.printing.proofs.Lengths.{printed-less}
-use Rattle.printing.proofs.AddedLaws.{decimal-length}
-use Rattle.guardtext.specs.Shown.{textRoom, refusal, records, answered, shown}
-
-pub refusal-length : (n : ℕ) → n < 256 → length (refusal n) ≤ 512
-unfolding refusal ascii
-refusal-length n h = simp length-append (omega (arith, decimal-length n))
+use Rattle.guardtext.specs.Shown.{textRoom, answered, shown, Shows}
 
 pub gave-as : (before : Bytes) {p q : Print} {after : Bytes} {r : Printed} → p ≡ q → Gave (given p before) r after → Gave (given q before) r after
 gave-as before {after = after} {r = r} e g = subst (λ (x : Print). Gave (given x before) r after) e g
@@ -36,12 +34,15 @@ pub placed : (file : Bytes) (b : ℕ) → Passed file → b ≡ number file 3 1 
 unfolding nodeCount rowPlace nodePlace
 placed file b ok e = let c : CountsFit file = counts-fit file (ok .kept3) in omega (arith, c .long)
 
-pub records-are : (file : Bytes) (b : ℕ) → b ≡ number file 3 1
-    → printed (take (6 + 16 * b - 6) (drop 6 file)) (take (length file - (6 + 16 * b)) (drop (6 + 16 * b) file)) ≡ records file
-unfolding records nodeCount nodePlace
-records-are file b e =
-    ap (printed (take (6 + 16 * b - 6) (drop 6 file))) (take-all (length file - (6 + 16 * b)) (drop (6 + 16 * b) file) (simp length-drop (omega arith)))
-    ∙ ap (λ (k : ℕ). printed (take (6 + 16 * k - 6) (drop 6 file)) (drop (6 + 16 * k) file)) e
+pub records-are : (file : Bytes) (b : ℕ) → Passed file → b ≡ number file 3 1
+    → printed (take (6 + 16 * b - 6) (drop 6 file)) (take (length file - (6 + 16 * b)) (drop (6 + 16 * b) file)) ≡ printed (nodeBytes file) (stepBytes file)
+unfolding nodeBytes stepBytes nodeCount rowPlace nodePlace
+records-are file b ok e =
+    let c : CountsFit file = counts-fit file (ok .kept3) in
+    let n : 6 + 16 * b - 6 ≡ 16 * nodeCount file = omega arith in
+    let m : length file - (6 + 16 * b) ≡ 12 * stepCount file = omega (arith, c .long) in
+    ap₂ (λ (k l : ℕ). printed (take k (drop 6 file)) (take l (drop (6 + 16 * b) file))) n m
+    ∙ ap (λ (k : ℕ). printed (nodeBytes file) (take (12 * stepCount file) (drop (6 + 16 * k) file))) e
 
 pub shown-long : (input : Bytes) → 6646 < length input → text (refusal 1) ≡ shown input
 unfolding shown
@@ -63,11 +64,19 @@ never-short noText before {after} {r} g h e =
     let f : Short ≡ NoText = sym e ∙ g .answer in
     let z : _≡_ {A = ℕ} 0 1 = cc in omega arith
 
-pub records-less : (file : Bytes) → Passed file → (t : Bytes) → records file ≡ text t → length t ≤ textRoom
-unfolding records rowPlace nodePlace
+pub records-less : (file : Bytes) → Passed file → (t : Bytes) → printed (nodeBytes file) (stepBytes file) ≡ text t → length t ≤ textRoom
+unfolding nodeBytes stepBytes
 records-less file ok t e =
     let c : CountsFit file = counts-fit file (ok .kept3) in
-    let n : ℕ = 6 + 16 * nodeCount file in
-    let a : length (take (n - 6) (drop 6 file)) ≤ 496 = simp (length-take, length-drop) (omega (arith, c .few-nodes)) in
-    let b : length (drop n file) ≤ 6144 = simp length-drop (omega (arith, c .long, c .few-steps)) in
-    omega (arith, printed-less (take (n - 6) (drop 6 file)) (drop n file) t (omega arith) (omega arith) e)
+    let a : length (nodeBytes file) ≤ 496 = simp length-take (omega (arith, c .few-nodes)) in
+    let b : length (stepBytes file) ≤ 6144 = simp length-take (omega (arith, c .few-steps)) in
+    omega (arith, printed-less (nodeBytes file) (stepBytes file) t (omega arith) (omega arith) e)
+
+-- ---- Every file that passes is shown as a text.
+
+pub every-file-shown : (file : Bytes) (r e : ActionSet) → Small file → check file ≡ passes r e → Shows file
+unfolding answered rowPlace nodePlace
+every-file-shown file r e small h =
+    let c : CountsFit file = counts-fit file (passed file r e h .kept3) in
+    let back = read-printed file r e small h in
+    record { back = back; is = sym (shown-short file (passes r e) (omega (arith, c .long, c .few-nodes, c .few-steps)) (sym h)) ∙ back .prints }

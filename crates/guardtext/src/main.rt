@@ -4,33 +4,31 @@
 ghost use mathlib.Core.Path.{_≡_};
 ghost use Prim.Native.Nat.{_≤_};
 ghost use lib.ListN.{length};
-ghost use Rattle.text.specs.Printing.{text};
+ghost use Rattle.policy.specs.Records.{nodeBytes, stepBytes};
+ghost use Rattle.text.specs.Printing.{text, printed};
+ghost use Rattle.spelling.specs.Refusal.{refusal};
 ghost use Rattle.printing.specs.Printing.{given, Gave};
 ghost use Rattle.rules.specs.Passed.{Passed};
-ghost use Rattle.guardtext.specs.Shown.{textRoom, refusal, records, shown};
+ghost use Rattle.guardtext.specs.Shown.{textRoom, shown};
 use checking::Checked;
 use checking::check;
 use libc::STDIN_FILENO;
 use libc::STDOUT_FILENO;
 use printing::Printed;
 use printing::print;
-use printing::texts::append;
-use printing::texts::append_number;
 use reading::byte;
 
 fn refuse(room: &mut [u8], n: u8) -> Printed
     requires { ⌜ textRoom ≤ length (now room) ⌝ }
     ensures { λ r. ⌜ Gave (given (text (refusal n)) (now (room .entry))) r (now (room .exit)) × (r ≡ Printed.Short → ⊥) ⌝ }
 {
-    let begun = append(room, 0, b"refused ");
-    let said = append_number(room, begun, n as u64);
-    Printed::Text(append(room, said, b"\n"))
+    Printed::Text(spelling::refuse(room, 0, n))
 }
 
 // The records of a file that passes lie one after another behind its front.
 fn print_records(policy: &[u8], room: &mut [u8]) -> Printed
     requires { ⌜ Passed (now policy) × (textRoom ≤ length (now room)) ⌝ }
-    ensures { λ r. ⌜ Gave (given (records (now (policy .entry))) (now (room .entry))) r (now (room .exit)) × (r ≡ Printed.Short → ⊥) ⌝ }
+    ensures { λ r. ⌜ Gave (given (printed (nodeBytes (now (policy .entry))) (stepBytes (now (policy .entry)))) (now (room .entry))) r (now (room .exit)) × (r ≡ Printed.Short → ⊥) ⌝ }
 {
     let steps = 6 + 16 * byte(policy, 3) as usize;
     print(&policy[6..steps], &policy[steps..], room)
@@ -63,7 +61,7 @@ fn text_room() -> [u8; 131072]
     [0; 131072]
 }
 
-// There is always room for the text; of records that have none nothing is printed.
+// There is always room for the text, and every file that passes has one (`every-file-shown`).
 fn main() {
     let mut input = input_room();
     let end = io::read_full(STDIN_FILENO, &mut input);

@@ -4,7 +4,7 @@ use native.Mathlib.Nat.{le-of-eq}
 use native.Mathlib.Omega.{arith}
 use mathlib.Core.Path.{_≡_, refl, sym, ap, ap₂, _∙_, subst}
 use mathlib.Core.Bool.{Bool, true, false, _&&_}
-use lib.Dec.{T, ltb, leb, leb→le}
+use lib.Dec.{T, ltb, leb, leb→le, lit≤}
 use lib.ListN.{length, take, replicate, length-replicate}
 use lib.Seq.{take-all}
 use borrow.Author.Tests.{lt-ltb, le-ltb, ltb-true, ltb-false, le-leb}
@@ -12,6 +12,7 @@ use Rattle.actions.proofs.Tests.{true-not-false, of-yes, and-left, and-right}
 use Rattle.policy.specs.Bytes.{Bytes, put}
 use Rattle.policy.proofs.ByteLaws.{put-length}
 use Rattle.rules.specs.Check as check
+use Rattle.text.specs.Words.{ascii, lines}
 use Rattle.text.specs.Forms.{size}
 use Rattle.text.specs.Reading as text
 use Rattle.text.specs.Reading.{records, badLine, readText, answer}
@@ -29,16 +30,25 @@ use Rattle.writing.specs.declared.Written.the-variants.{Wrote, Refused}
 use Rattle.writing.proofs.Files.{written-length, lendable-lent, unlent, by-check}
 use Rattle.writing.proofs.Lays.{taken-again}
 use Rattle.writing.proofs.ReadBack.{read-back}
-use Rattle.spelling.specs.Appended.{Appended}
+use Rattle.spelling.specs.Added.{Added, Tells}
+use Rattle.spelling.specs.Refusal.{refusal}
+use Rattle.spelling.proofs.AddedLaws.{tells}
 use Rattle.blaming.specs.Expected.{lineSays, faultIn}
-use Rattle.blaming.specs.Places.{Tells}
-use Rattle.guardwrite.specs.Said.{refusal, filed, answered, mostText, tooLong, outRoom, madeOver, made}
-
-pub alone : {a b x : Bytes} {r : ℕ} → Appended a 0 x b r → r ≤ length b → Tells b r x
-alone p h = record { text = p .text; inside = h }
+use Rattle.blaming.proofs.FaultLaws.{says-short}
+use Rattle.guardwrite.specs.Said.{filed, answered, mostText, mostSays, tooLong, outRoom, madeOver, made}
 
 pub instead : {b x y : Bytes} {r : ℕ} → Tells b r x → x ≡ y → Tells b r y
 instead {b} {x} {y} {r} t e = subst (Tells b r) e t
+
+-- ---- there is room for a line that is said
+
+module _ {a b : Bytes} {r : ℕ} (n : ℕ) (fits : n < 18_446_744_073_709_551_616) (room : outRoom ≤ length a) where
+  pub line-tells : (what : Bytes) → length what ≤ 101 → Added a 0 (lineSays n what) b r → Tells b r (lineSays n what)
+  line-tells what h p = tells p (omega (arith, says-short n what fits))
+
+  pub long-tells : (t : Bytes) (m : ℕ) → m ≡ mostText → n ≡ length (lines (take m t)) → Added a 0 (lineSays n mostSays) b r → Tells b r (tooLong t)
+  unfolding tooLong ascii
+  long-tells t m d e p = instead (line-tells mostSays (lit≤ tt) p) (ap (λ (k : ℕ). lineSays k mostSays) (e ∙ ap (λ (k : ℕ). length (lines (take k t))) d))
 
 -- ---- the length of the text
 

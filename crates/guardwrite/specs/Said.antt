@@ -1,18 +1,14 @@
 -- What guardwrite prints of a text. Assumes nothing.
 use Prim.Native.Nat.{ℕ}
 use mathlib.Core.Bool.{true, false}
-use mathlib.Core.List.{_++_}
 use lib.Dec.{ltb}
 use lib.ListN.{length, take, replicate}
 use Rattle.policy.specs.Bytes.{Bytes}
 use Rattle.text.specs.Words.{ascii, lines}
-use Rattle.text.specs.Numerals.{decimal}
 use Rattle.text.specs.Reading.{Read, records, badLine, readText}
+use Rattle.spelling.specs.Refusal.{refusal}
 use Rattle.blaming.specs.Expected.{lineSays, faultIn}
 use Rattle.writing.specs.Writing.{wrote, refuses, Result, writes}
-
-unfoldable pub refusal : ℕ → Bytes
-refusal n = ascii "refused " ++ (decimal n ++ ascii "\n")
 
 -- the file, or a refusal and no byte of a file
 unfoldable pub filed : Result → Bytes
@@ -26,9 +22,12 @@ answered room text (badLine n) = lineSays n (faultIn text n)
 abbrev pub mostText : ℕ
 mostText = 262144
 
+abbrev pub mostSays : Bytes
+mostSays = ascii "a text of at most 262144 bytes"
+
 -- the line in which the first byte lies that is too many
 unfoldable pub tooLong : Bytes → Bytes
-tooLong text = lineSays (length (lines (take mostText text))) (ascii "a text of at most 262144 bytes")
+tooLong text = lineSays (length (lines (take mostText text))) mostSays
 
 -- All that is printed, from what the output held before and all that is read.
 unfoldable pub madeOver : Bytes → Bytes → Bytes

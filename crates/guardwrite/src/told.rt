@@ -4,13 +4,14 @@ ghost use Prim.Native.Nat.{_≤_, _<_};
 ghost use lib.ListN.{length};
 ghost use Rattle.text.specs.Reading.{readText};
 ghost use Rattle.writing.specs.Writing.{writes};
-ghost use Rattle.blaming.specs.Places.{Tells};
-ghost use Rattle.guardwrite.specs.Said.{refusal, filed, answered, mostText, tooLong, outRoom, made};
+ghost use Rattle.spelling.specs.Added.{Tells};
+ghost use Rattle.spelling.specs.Refusal.{refusal};
+ghost use Rattle.guardwrite.specs.Said.{filed, answered, mostText, tooLong, outRoom, made};
 use blaming::bad_line;
 use blaming::begin;
 use blaming::line_count;
 use spelling::append;
-use spelling::append_number;
+use spelling::refuse;
 use transcribing::Answer;
 use transcribing::read;
 use writing::Written;
@@ -20,9 +21,7 @@ fn refused(n: u8, out: &mut [u8]) -> usize
     requires { ⌜ outRoom ≤ length (now out) ⌝ }
     ensures { λ r. ⌜ Tells (now (out .exit)) r (refusal n) ⌝ }
 {
-    let named = append(out, 0, b"refused ");
-    let numbered = append_number(out, named, n as u64);
-    append(out, numbered, b"\n")
+    refuse(out, 0, n)
 }
 
 // The file of the records, or the writer's refusal.
@@ -37,11 +36,19 @@ fn file(nodes: &[u8], steps: &[u8], out: &mut [u8]) -> usize
     }
 }
 
+// A function, since a proof is slow where it meets the number in the place of a slice's end.
+fn most_text() -> usize
+    ensures { λ r. ⌜ r ≡ mostText ⌝ }
+{
+    262144
+}
+
 fn too_long(text: &[u8], out: &mut [u8]) -> usize
     requires { ⌜ (mostText < length (now text)) × (outRoom ≤ length (now out)) ⌝ }
     ensures { λ r. ⌜ Tells (now (out .exit)) r (tooLong (now (text .entry))) ⌝ }
 {
-    let n = line_count(&text[..262144]);
+    let most = most_text();
+    let n = line_count(&text[..most]);
     let begun = begin(n, out);
     let said = append(out, begun, b"a text of at most 262144 bytes");
     append(out, said, b"\n")
@@ -78,7 +85,7 @@ pub fn tell(text: &[u8], out: &mut [u8]) -> usize
     requires { ⌜ outRoom ≤ length (now out) ⌝ }
     ensures { λ r. ⌜ Tells (now (out .exit)) r (made (now (text .entry))) ⌝ }
 {
-    if text.len() > 262144 {
+    if text.len() > most_text() {
         return too_long(text, out);
     }
     let mut nodes = node_room();

@@ -6,25 +6,25 @@ use mathlib.Core.Bool.{Bool, true, false}
 use mathlib.Core.List.{List, [], _∷_, _++_, append-assoc, append-nil}
 use mathlib.Core.Option.{Option, none, some}
 use lib.Dec.{ltb}
-use lib.ListN.{length, getD, take, drop, length-append, length-take, length-drop}
+use lib.ListN.{length, getD, take, drop, length-take, length-drop}
 use lib.Seq.{drop-drop, take-all}
 use borrow.Author.Tests.{ltb-true, ltb-false}
 use Rattle.actions.proofs.Tests.{no-of}
-use Rattle.policy.specs.Bytes.{Bytes, put, spell}
-use Rattle.policy.specs.Parts as parts
+use Rattle.policy.specs.Bytes.{Bytes}
 use Rattle.text.specs.Words.{sameBytes}
 use Rattle.text.specs.Forms.{Sort, node, step, size, Fields, fieldsIn, recordOf, Slot, place, Form, ofKind, bare}
 use Rattle.text.specs.Printing.{Print, text, noText, both, arguments, argument, lineText, said, countIn, says, printedIf, recordText, stepsText, nodesText}
 use Rattle.text.proofs.WordLaws.{same-eq}
-use Rattle.printing.specs.declared.forms.Form as code
+use Rattle.text.proofs.RecordLaws.{record-size}
+use Rattle.phrasing.specs.declared.forms.Form as code
 use Rattle.printing.specs.declared.lines.Place.{Place}
 use Rattle.printing.specs.declared.lines.Place.the-variants.{Ends, NoText}
-use Rattle.printing.specs.Added.{limit, reached, Added}
-use Rattle.printing.specs.Meant.{slotOf, slotsOf, Means}
-use Rattle.printing.specs.Whole.{saysOf}
-use Rattle.printing.specs.Laid.{lineAs, ends, Laid}
-use Rattle.printing.proofs.AddedLaws.{joined}
-use Rattle.printing.proofs.FormLaws.{found, unfound}
+use Rattle.spelling.specs.Added.{Added}
+use Rattle.phrasing.specs.Meant.{slotOf, slotsOf, Means}
+use Rattle.phrasing.specs.Whole.{saysOf}
+use Rattle.printing.specs.Laid.{lineAs, laid, Laid}
+use Rattle.spelling.proofs.AddedLaws.{joined}
+use Rattle.phrasing.proofs.FormLaws.{found, unfound}
 
 -- ---- what a line says
 
@@ -51,17 +51,12 @@ arguments-three f xs =
 -- ---- texts that may not be
 
 pub laid-text : {t before after : Bytes} {at end : ℕ} → Added before at t after end → Laid (text t) before at after (Ends end)
-unfolding ends
-laid-text {t} {before} {after} {at} {end} p = record {
-  place = λ l. ap Ends (p .ends l);
-  told = λ u e h l.
-      let q : t ≡ u = cc in
-      subst (λ (v : Bytes). after ≡ put before at v) q (p .told (subst (λ (v : Bytes). at + length v ≤ length before) (sym q) h) (subst (λ (v : Bytes). at + length v ≤ limit) (sym q) l));
-}
+unfolding laid
+laid-text p = record { is = p }
 
 pub laid-none : {before after : Bytes} {at : ℕ} → Laid noText before at after NoText
-unfolding ends
-laid-none = record { place = λ l. refl; told = λ t e h l. let z : _≡_ {A = ℕ} 0 1 = cc in absurd (omega arith) }
+unfolding laid
+laid-none = record { is = tt }
 
 pub laid-end : {p : Print} {before after : Bytes} {at : ℕ} {r s : Place} → Laid p before at after r → r ≡ s → Laid p before at after s
 laid-end {p} {before} {after} {at} h e = subst (λ (x : Place). Laid p before at after x) e h
@@ -99,40 +94,17 @@ record-untold s i bs e = go (ofKind s (getD bs 0 0)) refl
 -- ---- texts one after another
 
 pub laid-both : (p q : Print) {before mid after : Bytes} {at e : ℕ} {r : Place} → Laid p before at mid (Ends e) → Laid q mid e after r → Laid (both p q) before at after r
-unfolding both ends
-laid-both (text t) (text u) {before} {mid} {after} {at} {e} {r} x y = record {
-  place = λ l.
-      let f : Ends e ≡ Ends (reached (at + length t)) = x .place l in
-      let d : e ≡ reached (at + length t) = cc in
-      let n : reached (e + length u) ≡ reached (at + length (t ++ u)) = rw (length-append t u) (omega arith) in
-      y .place (omega arith) ∙ ap Ends n;
-  told = λ v q h l.
-      let w : t ++ u ≡ v = cc in
-      let n : length v ≡ length t + length u = ap length (sym w) ∙ length-append t u in
-      let f : Ends e ≡ Ends (reached (at + length t)) = x .place (omega arith) in
-      let d : e ≡ reached (at + length t) = cc in
-      let a : Added before at t mid e = record { ends = λ _. d; told = x .told t refl } in
-      let b : Added mid e u after (reached (e + length u)) = record { ends = λ _. refl; told = y .told u refl } in
-      subst (λ (z : Bytes). after ≡ put before at z) w (joined a b .told (subst (λ (z : Bytes). at + length z ≤ length before) (sym w) h) (subst (λ (z : Bytes). at + length z ≤ limit) (sym w) l));
-}
-laid-both (text t) noText {at = at} {e = e} x y = record {
-  place = λ l.
-      let f : Ends e ≡ Ends (reached (at + length t)) = x .place l in
-      let d : e ≡ reached (at + length t) = cc in y .place (omega arith);
-  told = λ v q h l. let z : _≡_ {A = ℕ} 0 1 = cc in absurd (omega arith);
-}
-laid-both noText q x y = record {
-  place = λ l. let f = x .place l in let z : _≡_ {A = ℕ} 0 1 = cc in absurd (omega arith);
-  told = λ v e h l. let z : _≡_ {A = ℕ} 0 1 = cc in absurd (omega arith);
-}
+unfolding both laid
+laid-both (text t) (text u) {r = Ends n} x y = record { is = joined (x .is) (y .is) }
+laid-both (text t) (text u) {r = NoText} x y = absurd (y .is)
+laid-both (text t) noText {r = Ends n} x y = absurd (y .is)
+laid-both (text t) noText {r = NoText} x y = laid-none
+laid-both noText q x y = absurd (x .is)
 
 -- none of the first, so none at all
 pub laid-first : (p q : Print) {before mid after : Bytes} {at : ℕ} → Laid p before at mid NoText → Laid (both p q) before at after NoText
-unfolding both ends
-laid-first (text t) q x = record {
-  place = λ l. let f = x .place l in let z : _≡_ {A = ℕ} 0 1 = cc in absurd (omega arith);
-  told = λ v e h l. let f = x .place (omega arith) in let z : _≡_ {A = ℕ} 0 1 = cc in absurd (omega arith);
-}
+unfolding both laid
+laid-first (text t) q x = absurd (x .is)
 laid-first noText q x = laid-none
 
 -- ---- a leaf's steps, the j-th and those after it
@@ -154,11 +126,6 @@ unfolding stepsText
 steps-over count j ss h = let a : count - j ≡ 0 = omega arith in ap (λ (k : ℕ). stepsText k j (drop (12 * j) ss)) (sym a)
 
 -- ---- records that are not all there
-
-record-size : (s : Sort) (count : ℕ) (xs : Fields) → length (recordOf s count xs) ≡ size s
-unfolding recordOf size parts.node parts.step spell
-record-size node count xs = refl
-record-size step count xs = refl
 
 record-short : (s : Sort) (i : ℕ) (bs : Bytes) → length bs < size s → noText ≡ recordText s i bs
 unfolding saysOf says

@@ -1,7 +1,6 @@
 -- How long a text may be: 240 bytes for each record. Assumes nothing.
-use Prim.Native.Nat.{ℕ, zero, suc, _+_, _*_, _/_, _^_, _≤_, _<_}
+use Prim.Native.Nat.{ℕ, zero, suc, _+_, _*_, _/_, _≤_, _<_}
 use Prim.Native.Char.{code}
-use native.Mathlib.Nat.{pow-succ'}
 use native.Mathlib.Omega.{arith}
 use mathlib.Core.Path.{_≡_, refl, sym, ap, _∙_, subst}
 use mathlib.Core.Bool.{Bool, true, false, _&&_, not}
@@ -16,29 +15,20 @@ use Rattle.policy.specs.Bytes.{Bytes}
 use Rattle.policy.specs.Lists.{every}
 use Rattle.text.specs.Words.{ascii, sameBytes, newline, space}
 use Rattle.text.specs.Numerals.{decimal}
-use Rattle.text.specs.Forms.{Sort, node, step, size, Fields, fieldsIn, recordOf, Slot, number, actions, place, bound, Form, forms, firstOf, ofKind, sameSort, bare}
+use Rattle.text.specs.Forms.{Sort, node, step, size, Fields, fieldsIn, recordOf, Slot, number, actions, place, bound, Form, forms, ofKind, sameSort, bare}
 use Rattle.text.specs.Printing.{Print, text, noText, both, listing, spaced, argument, arguments, indent, remark, lineText, said, countIn, says, printedIf, recordText, stepsText, nodesText, printed}
-use Rattle.printing.specs.Added.{led}
-use Rattle.printing.proofs.AddedLaws.{decimal-one, decimal-last, member-none, member-first, member-next, members-next}
+use Rattle.text.proofs.TableLaws.{first-passes}
+use Rattle.spelling.specs.Added.{led}
+use Rattle.spelling.proofs.AddedLaws.{decimal-below, member-none, member-first, member-next, members-next}
 use Rattle.printing.proofs.LaidLaws.{both-none, steps-short}
 
 -- ---- numbers and sets
-
-decimal-less : (k n : ℕ) → n < 10 ^ suc k → length (decimal n) ≤ suc k
-decimal-less zero n h = subst (λ (w : Bytes). length w ≤ 1) (decimal-one n h) (omega arith)
-decimal-less (suc k) n h = go (ltb n 10) refl (decimal-less k (n / 10))
-  where
-    go : (b : Bool) → ltb n 10 ≡ b → (n / 10 < 10 ^ suc k → length (decimal (n / 10)) ≤ suc k) → length (decimal n) ≤ suc (suc k)
-    go true e r = subst (λ (w : Bytes). length w ≤ suc (suc k)) (decimal-one n (ltb-true n 10 e)) (omega arith)
-    go false e r =
-        let q : n < 10 * 10 ^ suc k = subst (λ (m : ℕ). n < m) (pow-succ' 10 (suc k)) h in
-        subst (λ (w : Bytes). length w ≤ suc (suc k)) (decimal-last n (ltb-false n 10 e)) (simp length-append (omega (arith, r (omega arith))))
 
 member-less : (f : Bool) (v : ActionSet) (a : ℕ) → a < 100 → length (led f (listing v a 1)) ≤ 3
 member-less f v a h = go f refl (has v a) refl
   where
     d : length (decimal a) ≤ 2
-    d = decimal-less 1 a h
+    d = decimal-below 1 a h
 
     go : (g : Bool) → f ≡ g → (b : Bool) → has v a ≡ b → length (led f (listing v a 1)) ≤ 3
     go g p false e = subst (λ (w : Bytes). length w ≤ 3) (member-none f v a e) (omega arith)
@@ -69,7 +59,7 @@ tenDigits (number i most) = leb most 4_294_967_295
 tenDigits (actions i) = true
 
 ten-less : (most v : ℕ) → most ≤ 4_294_967_295 → v ≤ most → suc (length (decimal v)) ≤ 11
-ten-less most v h l = let a : v < 10_000_000_000 = omega arith in let d : length (decimal v) ≤ 10 = decimal-less 9 v a in omega arith
+ten-less most v h l = let a : v < 10_000_000_000 = omega arith in let d : length (decimal v) ≤ 10 = decimal-below 9 v a in omega arith
 
 in-braces : (w : Bytes) → length w ≤ 192 → length (space ∷ code "{" ∷ (w ++ (code "}" ∷ []))) ≤ 195
 in-braces w h = simp length-append (omega arith)
@@ -103,18 +93,6 @@ arguments-less (p ∷ ps) xs t h =
 brief : Form → Bool
 brief f = every tenDigits (f .slots) && leb (length (ascii (f .name)) + slotsMost (f .slots)) 222
 
-first-passes : (p q : Form → Bool) (f : Form) (fs : List Form) → T (every q fs) → firstOf p fs ≡ some f → T (q f)
-unfolding firstOf every
-first-passes p q f [] h e = let z : _≡_ {A = ℕ} 0 1 = cc in absurd (omega arith)
-first-passes p q f (g ∷ fs) h e = go (p g) refl (first-passes p q f fs (and-right (q g) (every q fs) h))
-  where
-    go : (b : Bool) → p g ≡ b → (firstOf p fs ≡ some f → T (q f)) → T (q f)
-    go true t r =
-        let u : some g ≡ some f = rw (firstOf, t) at e in
-        let v : g ≡ f = cc in
-        subst (λ (x : Form). T (q x)) v (and-left (q g) (every q fs) h)
-    go false t r = r (rw (firstOf, t) at e)
-
 form-brief : (s : Sort) (k : ℕ) (f : Form) → ofKind s k ≡ some f → T (brief f)
 unfolding ofKind forms every brief tenDigits slotsMost slotMost ascii
 form-brief s k f e = first-passes (λ g. sameSort (g .sort) s && eqb (g .kind) k) brief f forms tt e
@@ -136,7 +114,7 @@ module _ (s : Sort) (i : ℕ) (bs : Bytes) (few : i < 1000) where
       let t = and-left (every tenDigits (f .slots)) (leb n 222) b in
       let m = leb→le n 222 (and-right (every tenDigits (f .slots)) (leb n 222) b) in
       let e = ends-less s in
-      simp length-append (omega (arith, arguments-less (f .slots) (fieldsIn s bs) t fit, decimal-less 2 i few, m, e .0, e .1))
+      simp length-append (omega (arith, arguments-less (f .slots) (fieldsIn s bs) t fit, decimal-below 2 i few, m, e .0, e .1))
 
   record-less : (t : Bytes) → recordText s i bs ≡ text t → length t ≤ 240
   unfolding recordText printedIf

@@ -1,5 +1,2 @@
-pub mod Added
-pub mod Meant
-pub mod Whole
 pub mod Laid
 pub mod Printing

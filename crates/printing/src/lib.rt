@@ -5,10 +5,7 @@ ghost use Rattle.printing.specs.Printing.{Gave, given};
 use crate::lines::Place;
 use crate::lines::all_lines;
 
-mod fields;
-mod forms;
 mod lines;
-pub mod texts;
 
 // The text's length; or nothing is written: the records have no text, or it is longer than the buffer.
 pub enum Printed {

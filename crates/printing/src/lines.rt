@@ -4,21 +4,21 @@ ghost use Prim.Native.Nat.{_*_, _≤_};
 ghost use lib.ListN.{length, take};
 ghost use Rattle.text.specs.Forms.{node, size, fieldsIn};
 ghost use Rattle.text.specs.Printing.{both, arguments, indent, remark, countIn, recordText, stepsText, printed};
-ghost use Rattle.printing.specs.Added.{Added};
-ghost use Rattle.printing.specs.Meant.{sortOf, slotOf, slotsOf};
+ghost use Rattle.spelling.specs.Added.{Added};
+ghost use Rattle.phrasing.specs.Meant.{sortOf, slotOf, slotsOf};
 ghost use Rattle.printing.specs.Laid.{lineAs, Laid};
-use crate::fields::counted;
-use crate::fields::field;
-use crate::fields::says;
-use crate::forms::Form;
-use crate::forms::Slot;
-use crate::forms::Sort;
-use crate::forms::form_of;
-use crate::texts::append;
-use crate::texts::append_number;
-use crate::texts::append_set;
 use actions::ActionSet;
+use phrasing::fields::counted;
+use phrasing::fields::field;
+use phrasing::fields::says;
+use phrasing::forms::Form;
+use phrasing::forms::Slot;
+use phrasing::forms::Sort;
+use phrasing::forms::form_of;
 use reading::byte;
+use spelling::append;
+use spelling::append_number;
+use spelling::append_set;
 
 // Where a text ends, if there is one.
 pub enum Place {

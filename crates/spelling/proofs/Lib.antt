@@ -1,2 +1,1 @@
-pub mod AppendLaws
-pub mod DigitLaws
+pub mod AddedLaws

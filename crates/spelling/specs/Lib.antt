@@ -1,1 +1,2 @@
-pub mod Appended
+pub mod Added
+pub mod Refusal

@@ -5,8 +5,7 @@ use mathlib.Core.Path.{sym, ap, _∙_}
 use borrow.Author.Needs.{needs}
 use Rattle.text.specs.Words.{words}
 use Rattle.text.specs.Forms.{named}
-use Rattle.spelling.proofs.AppendLaws.{nothing}
-use Rattle.spelling.proofs.AppendLaws.{named as instead}
+use Rattle.spelling.proofs.AddedLaws.{nothing, named as instead}
 use Rattle.blaming.specs.Expected.{expected}
 use Rattle.blaming.proofs.FaultLaws.{first-is, fault-none, fault-step, fault-bad}
 use Rattle.blaming.proofs.expect.Statement.{statement}
@@ -16,14 +15,13 @@ returns : tie.Need-returns
 returns c =
     let a = c .before .before .before .before .args in
     let r = c .before .read-line in
-    (instead (nothing (a .out .now) (a .at)) (sym (fault-none (words (a .line .now)) (r .result .form) (r .result .fields) (r .ensures) (a .room) (c .if1 .taken))), omega arith)
+    instead (nothing (a .out .now) (a .at)) (sym (fault-none (words (a .line .now)) (r .result .form) (r .result .fields) (r .ensures) (a .room) (c .if1 .taken)))
 
 returns-2 : tie.Need-returns-2
 returns-2 c =
     let a = c .before .before .before .before .before .before .before .before .before .args in
     let r = c .before .before .before .before .before .before .read-line in
-    let m = c .before .before .misplaced .ensures in
-    (instead (m .0) (sym (fault-step (words (a .line .now)) (r .result .form) (r .result .fields) (r .ensures) (a .room) (c .before .before .before .before .if2 .taken))), m .1)
+    instead (c .before .before .misplaced .ensures) (sym (fault-step (words (a .line .now)) (r .result .form) (r .result .fields) (r .ensures) (a .room) (c .before .before .before .before .if2 .taken)))
 
 returns-3 : tie.Need-returns-3
 returns-3 c =
@@ -31,12 +29,9 @@ returns-3 c =
     let r = c .before .before .before .before .before .before .before .before .read-line in
     let w = c .before .before .before .before .before .next-word in
     let f = c .before .before .before .before .form-of in
-    let u = c .before .before .usage .ensures in
-    let l : 15 < r .result .form = omega (arith, c .before .before .before .before .before .before .if2 .left) in (
-      instead (u .0) (sym (fault-bad (words (a .line .now)) (r .result .form) (r .result .fields) (r .ensures) (a .room) l
-          ∙ ap (λ x. expected (named x)) (first-is (a .line .now) (w .result .start) (w .result .end) (w .ensures)) ∙ ap expected (f .ensures))),
-      u .1,
-    )
+    let l : 15 < r .result .form = omega (arith, c .before .before .before .before .before .before .if2 .left) in
+    instead (c .before .before .usage .ensures) (sym (fault-bad (words (a .line .now)) (r .result .form) (r .result .fields) (r .ensures) (a .room) l
+    ∙ ap (λ x. expected (named x)) (first-is (a .line .now) (w .result .start) (w .result .end) (w .ensures)) ∙ ap expected (f .ensures)))
 
 pub expect-spec : {M : Type 1} → statement M
 expect-spec =

@@ -2,7 +2,7 @@
 use native.Mathlib.Omega.{arith}
 use mathlib.Core.Path.{sym, ap, _∙_}
 use borrow.Author.Needs.{needs}
-use Rattle.spelling.proofs.AppendLaws.{named}
+use Rattle.spelling.proofs.AddedLaws.{named}
 use Rattle.blaming.specs.Expected.{expected}
 use Rattle.blaming.specs.Places.{row}
 use Rattle.blaming.proofs.RowLaws.{row-part}
@@ -18,15 +18,11 @@ part-append-start c = let p = row-part (c .before .before .before .before .befor
 part-append-end : tie.Need-part-append-end
 part-append-end c = let p = row-part (c .before .before .before .before .before .rows .ensures) (c .before .before .before .row-end .ensures) (c .before .before .row-end2 .ensures) (c .before .before .before .before .row-of .ensures .0) in omega (arith, p .ordered, p .inside)
 
-append-requires : tie.Need-append-requires
-append-requires c κs = let p = row-part (c .before .before .before .before .before .before .rows .ensures) (c .before .before .before .before .row-end .ensures) (c .before .before .before .row-end2 .ensures) (c .before .before .before .before .before .row-of .ensures .0) in omega (arith, p .ordered, p .short, p .size)
-
 returns : tie.Need-returns
 unfolding row
 returns c =
     let p = row-part (c .before .before .before .before .before .before .before .before .before .rows .ensures) (c .before .before .before .before .before .before .before .row-end .ensures) (c .before .before .before .before .before .before .row-end2 .ensures) (c .before .before .before .before .before .before .before .before .row-of .ensures .0) in
-    let q = c .before .before .append .ensures in
-    (named q (p .is ∙ sym (ap expected (c .before .before .before .before .before .before .before .before .row-of .ensures .1))), omega (arith, q .ends, p .ordered, p .short, p .size))
+    named (c .before .before .append .ensures) (p .is ∙ sym (ap expected (c .before .before .before .before .before .before .before .before .row-of .ensures .1)))
 
 pub usage-spec : {M : Type 1} → statement M
 usage-spec =
@@ -40,6 +36,6 @@ usage-spec =
     sub-append
     part-append-start
     part-append-end
-    append-requires
+    (λ c κs. search needs)
     (λ c. search needs)
     returns)

@@ -4,12 +4,13 @@ use denote.Enum.Laws as EL
 use denote.Triple.Spec.{tripleOf}
 use denote.Triple.Table.{entered, cited}
 use Rattle.turns.specs.Entries.{carriedOut}
-use Rattle.calling.specs.Calls.{asked, Counted, Allowed}
+use Rattle.answering.specs.Requests.{asked}
+use Rattle.calling.specs.Calls.{Counted, Allowed}
 use Rattle.answering.specs.Replies.{Gave}
 use Rattle.answering.proofs.Answer as S
 use Rattle.answering.proofs.Answer.Laws as S′
-use Rattle.calling.proofs.Call as K
-use Rattle.calling.proofs.Call.Laws as K′
+use Rattle.answering.proofs.Call as K
+use Rattle.answering.proofs.Call.Laws as K′
 use Rattle.calling.proofs.Apart.{thin-meets}
 use Rattle.calling.proofs.carry_counted as carry-counted
 use Rattle.calling.proofs.carry_counted.Symbol as carry-counted-def

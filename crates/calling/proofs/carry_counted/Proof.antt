@@ -1,6 +1,6 @@
 -- `carry_counted` meets its contract: each call is its own function's. Assumes nothing.
 use borrow.Author.Needs.{needs}
-use Rattle.calling.specs.Calls.{asked}
+use Rattle.answering.specs.Requests.{asked}
 use Rattle.calling.proofs.CallLaws.{allowed-as, gave-as}
 use Rattle.calling.proofs.carry_counted.Statement.{statement}
 use Rattle.calling.proofs.carry_counted.Tie as tie

@@ -14,13 +14,14 @@ use Rattle.views.proofs.view_of.Symbol as view-of-def
 use Rattle.views.proofs.view_of.Met as view-of-thm
 use Rattle.tables.proofs.FileNodes.{room}
 use Rattle.turns.specs.Entries.{carriedOut}
-use Rattle.calling.specs.declared.Call.{Call}
-use Rattle.calling.specs.Calls.{asked, Counted, Allowed}
+use Rattle.answering.specs.declared.Call.{Call}
+use Rattle.answering.specs.Requests.{asked}
+use Rattle.calling.specs.Calls.{Counted, Allowed}
 use Rattle.answering.specs.Replies.{Gave}
 use Rattle.answering.proofs.Answer as S
 use Rattle.answering.proofs.Answer.Laws as S′
-use Rattle.calling.proofs.Call as K
-use Rattle.calling.proofs.Call.Laws as K′
+use Rattle.answering.proofs.Call as K
+use Rattle.answering.proofs.Call.Laws as K′
 use Rattle.calling.proofs.Made.{maker-meets}
 use Rattle.calling.proofs.carry as carry
 use Rattle.calling.proofs.carry.Symbol as carry-def

@@ -5,9 +5,6 @@ use Rattle.fretmere.proofs.WordLaws.{passed-says, refused-says}
 use borrow.Author.Needs.{needs}
 use Rattle.fretmere.proofs.fretmere_check.Statement.{statement}
 use Rattle.fretmere.proofs.fretmere_check.Tie as tie
-use Rattle.fretmere.proofs.fretmere_check.Reads as reads
-use Rattle.fretmere.proofs.fretmere_check.Lts as lts
-use Rattle.checking.proofs.check.Reads as check-reads
 
 check-requires : tie.Need-check-requires
 check-requires c κs = search needs

@@ -5,10 +5,6 @@ use Rattle.turns.specs.Entries.{closes}
 use Rattle.fretmere.proofs.WordLaws.{few-answer}
 use Rattle.fretmere.proofs.fretmere_close.Statement.{statement}
 use Rattle.fretmere.proofs.fretmere_close.Tie as tie
-use Rattle.fretmere.proofs.fretmere_close.Reads as reads
-use Rattle.fretmere.proofs.fretmere_close.Lts as lts
-use Rattle.fretmere.proofs.packed.Reads as packed-reads
-use Rattle.guard.proofs.close.Reads as close-reads
 
 close-requires : tie.Need-close-requires
 close-requires c κs = search needs

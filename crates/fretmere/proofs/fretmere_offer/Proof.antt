@@ -5,10 +5,6 @@ use Rattle.turns.specs.Entries.{offers}
 use Rattle.fretmere.proofs.WordLaws.{few-answer}
 use Rattle.fretmere.proofs.fretmere_offer.Statement.{statement}
 use Rattle.fretmere.proofs.fretmere_offer.Tie as tie
-use Rattle.fretmere.proofs.fretmere_offer.Reads as reads
-use Rattle.fretmere.proofs.fretmere_offer.Lts as lts
-use Rattle.fretmere.proofs.packed.Reads as packed-reads
-use Rattle.guard.proofs.offer.Reads as offer-reads
 
 offer-requires : tie.Need-offer-requires
 offer-requires c κs = search needs

@@ -5,10 +5,6 @@ use Rattle.turns.specs.Entries.{opens}
 use Rattle.fretmere.proofs.WordLaws.{few-answer}
 use Rattle.fretmere.proofs.fretmere_open.Statement.{statement}
 use Rattle.fretmere.proofs.fretmere_open.Tie as tie
-use Rattle.fretmere.proofs.fretmere_open.Reads as reads
-use Rattle.fretmere.proofs.fretmere_open.Lts as lts
-use Rattle.fretmere.proofs.packed.Reads as packed-reads
-use Rattle.guard.proofs.open.Reads as open-reads
 
 open-requires : tie.Need-open-requires
 open-requires c κs = search needs

@@ -6,8 +6,9 @@ use Rattle.checking.specs.Answers.{answered}
 use Rattle.checking.proofs.Answers.{check-passes, check-refuses}
 use Rattle.turns.specs.Turn as spec
 use Rattle.turns.specs.Entries.{refusals, closes}
-use Rattle.calling.specs.declared.Call.the-variants.{Close}
-use Rattle.calling.specs.Calls.{asked, readable}
+use Rattle.answering.specs.declared.Call.the-variants.{Close}
+use Rattle.answering.specs.Requests.{asked}
+use Rattle.calling.specs.Calls.{readable}
 use Rattle.guard.proofs.EntryLaws.{allowed, room-enough, state-fits, refused-file, all-left, refused-here, next-left, none-left}
 use Rattle.guard.proofs.close.Statement.{statement}
 use Rattle.guard.proofs.close.Tie as tie

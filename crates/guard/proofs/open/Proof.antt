@@ -5,8 +5,9 @@ use Rattle.checking.specs.Answers.{answered}
 use Rattle.checking.proofs.Answers.{check-passes, check-refuses}
 use Rattle.turns.specs.Turn.{opening}
 use Rattle.turns.specs.Entries.{refusals, opens}
-use Rattle.calling.specs.declared.Call.the-variants.{Open}
-use Rattle.calling.specs.Calls.{asked, readable}
+use Rattle.answering.specs.declared.Call.the-variants.{Open}
+use Rattle.answering.specs.Requests.{asked}
+use Rattle.calling.specs.Calls.{readable}
 use Rattle.guard.proofs.EntryLaws.{allowed, refused-file, all-left, refused-here, next-left, none-left}
 use Rattle.guard.proofs.open.Statement.{statement}
 use Rattle.guard.proofs.open.Tie as tie

@@ -1,7 +1,7 @@
 -- `policy_end` meets its contract. Assumes nothing.
 use mathlib.Core.Path.{_∙_, ap}
 use native.Mathlib.Omega.{arith}
-use Rattle.guardrun.specs.Said.{policyEnd}
+use Rattle.guardrun.specs.Printed.{policyEnd}
 use Rattle.guardrun.proofs.EndLaws.{end-least, end-most, end-said}
 use borrow.Author.Needs.{needs}
 use Rattle.guardrun.proofs.policy_end.Statement.{statement}

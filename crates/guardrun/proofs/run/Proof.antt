@@ -1,5 +1,6 @@
 -- `run` is safe and ends: the buffers keep their lengths, and the measure is the number of turns that are left. Assumes nothing.
 use mathlib.Core.Path.{_≡_}
+use native.Mathlib.Omega.{arith}
 use lib.ListN.{length}
 use borrow.Author.Needs.{needs}
 use Rattle.guardrun.proofs.run.Statement.{statement}
@@ -10,6 +11,9 @@ Inv-loop policy state₀ events₀ text₀ request₀ left₀ state events text 
 
 abbrev μ-loop : tie.MeasureT-loop
 μ-loop policy state₀ events₀ text₀ request₀ left₀ state events text request left = left
+
+say-requires : tie.Need-say-requires Inv-loop μ-loop
+say-requires c κs = c .before .before .before .before .tell .ensures .speaks .text (omega (arith, c .before .before .before .before .before .before .before .before .before .loop .inv .2)) .inside
 
 pub run-spec : {M : Type 1} → statement M
 run-spec =
@@ -24,7 +28,7 @@ run-spec =
     (λ c. search needs)
     (λ c κs. search needs)
     (λ c. search needs)
-    (λ c κs. search needs)
+    say-requires
     (λ c. search needs)
     (λ c κs. search needs)
     (λ c. search needs)

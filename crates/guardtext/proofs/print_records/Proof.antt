@@ -22,7 +22,7 @@ part-print-start-2 c = let s = c .before .before .before .before in placed (s .a
 returns : tie.Need-returns
 returns c =
     let s = c .before .before .before .before .before .before .before .before .before in
-    let g = gave-as _ (records-are (s .args .policy .now) (c .before .before .before .before .before .before .byte .result) (c .before .before .before .before .before .before .byte .ensures)) (c .before .before .print .ensures) in
+    let g = gave-as _ (records-are (s .args .policy .now) (c .before .before .before .before .before .before .byte .result) (s .pre .0) (c .before .before .before .before .before .before .byte .ensures)) (c .before .before .print .ensures) in
     (g, never-short _ _ g (λ t e. le-trans (records-less (s .args .policy .now) (s .pre .0) t e) (s .pre .1)))
 
 pub print-records-spec : {M : Type 1} → statement M

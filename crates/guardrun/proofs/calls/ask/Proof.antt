@@ -1,7 +1,7 @@
 -- `ask` meets its contract. Assumes nothing.
 use mathlib.Core.Path.{sym, ap}
 use Rattle.turns.specs.Entries.{opens, offers, closes}
-use Rattle.calling.specs.Calls.{asked}
+use Rattle.answering.specs.Requests.{asked}
 use Rattle.answering.proofs.Heard.{gave-as}
 use borrow.Author.Needs.{needs}
 use Rattle.guardrun.proofs.calls.ask.Statement.{statement}
@@ -9,39 +9,17 @@ use Rattle.guardrun.proofs.calls.ask.Tie as tie
 
 returns : tie.Need-returns
 unfolding asked opens
-returns c =
-    let s = c .before .before .before .before .before .before .before .before .before .before .before .before in
-    gave-as (s .args .policy .now) (s .args .state .now) (s .args .events .now) (sym (ap asked (c .before .before .before .before .before .before .before .enum-told .given .1))) (c .before .before .before .before .«open» .ensures)
+returns c = gave-as _ _ _ (sym (ap asked (c .before .before .before .before .before .before .before .enum-told .given .1))) (c .before .before .before .before .«open» .ensures)
 
 returns-2 : tie.Need-returns-2
 unfolding asked offers
-returns-2 c =
-    let s = c .before .before .before .before .before .before .before .before .before .before .before .before .before in
-    let q = c .before .before .before .before .before .before .before .before .request .given in
-    gave-as (s .args .policy .now) (s .args .state .now) (s .args .events .now) (sym (ap asked (q .1))) (c .before .before .before .before .offer .ensures)
+returns-2 c = gave-as _ _ _ (sym (ap asked (c .before .before .before .before .before .before .before .before .request .given .1))) (c .before .before .before .before .offer .ensures)
 
 returns-3 : tie.Need-returns-3
 unfolding asked closes
-returns-3 c =
-    let s = c .before .before .before .before .before .before .before .before .before .before .before .before in
-    gave-as (s .args .policy .now) (s .args .state .now) (s .args .events .now) (sym (ap asked (c .before .before .before .before .before .before .before .enum-told2 .given .1))) (c .before .before .before .before .close .ensures)
+returns-3 c = gave-as _ _ _ (sym (ap asked (c .before .before .before .before .before .before .before .enum-told2 .given .1))) (c .before .before .before .before .close .ensures)
 
 pub ask-spec : {M : Type 1} → statement M
 ask-spec =
     tie.close
-    (tie.spec
-    (λ c. search needs)
-    (λ c κs. search needs)
-    (λ c. search needs)
-    (λ c κs. search needs)
-    (λ c. search needs)
-    (λ c κs. search needs)
-    (λ c. search needs)
-    (λ c. search needs)
-    returns
-    (λ c. search needs)
-    (λ c. search needs)
-    returns-2
-    (λ c. search needs)
-    (λ c. search needs)
-    returns-3)
+    (tie.spec (λ c. search needs) (λ c κs. search needs) (λ c. search needs) (λ c κs. search needs) (λ c. search needs) (λ c κs. search needs) (λ c. search needs) (λ c. search needs) returns (λ c. search needs) (λ c. search needs) returns-2 (λ c. search needs) (λ c. search needs) returns-3)

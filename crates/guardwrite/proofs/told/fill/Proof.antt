@@ -6,7 +6,9 @@ use lib.ListN.{length}
 use lib.Seq.{length-take-le}
 use borrow.Author.Needs.{needs}
 use Rattle.transcribing.specs.Transcribed.{gave}
-use Rattle.guardwrite.proofs.ToldLaws.{instead, was-read, was-bad, was-short}
+use Rattle.blaming.specs.Expected.{faultIn}
+use Rattle.blaming.proofs.FaultLaws.{fault-in-short}
+use Rattle.guardwrite.proofs.ToldLaws.{instead, line-tells, was-read, was-bad, was-short}
 use Rattle.guardwrite.proofs.told.fill.Statement.{statement}
 use Rattle.guardwrite.proofs.told.fill.Tie as tie
 
@@ -73,7 +75,7 @@ returns-2 c =
     let s = c .before .before .before .before .before .before .before .before .before .before .before .before .before .before .before .before .before .before in
     let r = c .before .before .before .before .before .before .before .before .before .before .before .read in
     let g = c .before .before .before .before .before .answer2 .given in
-    instead (c .before .before .bad-line .ensures)
+    instead (line-tells (g .0 .0) (omega arith) (s .pre .2) (faultIn (s .args .text .now) (g .0 .0)) (fault-in-short (s .args .text .now) (g .0 .0)) (c .before .before .bad-line .ensures))
     (was-bad (s .args .text .now) (s .args .nodes .now) (s .args .steps .now) (r .last .1 .0) (r .last .1 .1 .0) (s .args .out .now) (g .0 .0) (r .ensures ∙ ap (λ a. gave a (r .last .1 .0) (r .last .1 .1 .0)) (g .1)))
 
 returns-3 : tie.Need-returns-3

@@ -1,36 +1,37 @@
 -- `too_long` meets its contract: the number of the line in which the first byte too many lies. Assumes nothing.
-use Prim.Native.Nat.{_≤_}
 use native.Mathlib.Omega.{arith}
-use mathlib.Core.Path.{sym, ap}
-use lib.ListN.{length}
+use mathlib.Core.Path.{sym}
 use lib.Seq.{length-take-le}
 use borrow.Author.Needs.{needs}
 use Rattle.text.specs.Words.{ascii}
-use Rattle.spelling.proofs.AppendLaws.{joined, named}
-use Rattle.blaming.specs.Expected.{heading, lineSays}
-use Rattle.guardwrite.specs.Said.{tooLong}
-use Rattle.guardwrite.proofs.ToldLaws.{alone}
+use Rattle.blaming.specs.Expected.{lineSays}
+use Rattle.spelling.proofs.AddedLaws.{joined}
+use Rattle.guardwrite.proofs.ToldLaws.{long-tells}
 use Rattle.guardwrite.proofs.told.too_long.Statement.{statement}
 use Rattle.guardwrite.proofs.told.too_long.Tie as tie
 
 slice-aggregate-line-count : tie.Need-slice-aggregate-line-count
-slice-aggregate-line-count c = let s = c .before .before .before in sym (length-take-le 262144 (s .args .text .now) (omega (arith, s .pre .0)))
+slice-aggregate-line-count c =
+    let s = c .before .before .before .before in
+    let m = c .before .most-text in
+    sym (length-take-le (m .result) (s .args .text .now) (omega (arith, s .pre .0, m .ensures)))
 
 returns : tie.Need-returns
-unfolding tooLong lineSays ascii
+unfolding lineSays ascii
 returns c =
-    let s = c .before .before .before .before .before .before .before .before .before .before .before .before .before .before .before .before .before .before in
+    let s = c .before .before .before .before .before .before .before .before .before .before .before .before .before .before .before .before .before .before .before in
+    let m = c .before .before .before .before .before .before .before .before .before .before .before .before .before .before .before .before .most-text in
     let n = c .before .before .before .before .before .before .before .before .before .before .before .before .before .before .line-count in
     let b = c .before .before .before .before .before .before .before .before .before .before .before .before .begin in
     let p = c .before .before .before .before .before .before .before .append in
     let q = c .before .before .append2 in
-    let l : q .result ≤ length (q .last .0) = omega (arith, s .pre .1, b .ensures .1, p .ensures .ends, q .ensures .ends, b .kept .1 .0, p .kept .0, q .kept .0) in
-    alone (joined (named (b .ensures .0) (ap heading (n .ensures))) (joined (p .ensures) (q .ensures))) l
+    long-tells (n .result) (n .ok) (s .pre .1) (s .args .text .now) (m .result) (m .ensures) (n .ensures) (joined (b .ensures) (joined (p .ensures) (q .ensures)))
 
 pub too-long-spec : {M : Type 1} → statement M
 too-long-spec =
     tie.close
     (tie.spec
+    (λ c κs. search needs)
     slice-aggregate-line-count
     (λ c κs. search needs)
     (λ c κs. search needs)

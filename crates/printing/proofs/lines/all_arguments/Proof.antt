@@ -1,5 +1,5 @@
 -- `all_arguments` meets its contract. Assumes nothing.
-use Rattle.printing.proofs.AddedLaws.{joined, named}
+use Rattle.spelling.proofs.AddedLaws.{joined, named}
 use Rattle.printing.proofs.LaidLaws.{arguments-three}
 use borrow.Author.Needs.{needs}
 use Rattle.printing.proofs.lines.all_arguments.Statement.{statement}

@@ -6,9 +6,9 @@ use Rattle.text.specs.Words.{space}
 use Rattle.text.specs.Numerals.{decimal}
 use Rattle.text.specs.Forms.{number, actions, place, fieldsIn}
 use Rattle.text.specs.Printing.{argument, arguments}
-use Rattle.printing.specs.declared.forms.Slot.{Slot}
-use Rattle.printing.specs.Meant.{sortOf, slotOf}
-use Rattle.printing.proofs.AddedLaws.{nothing, joined, named}
+use Rattle.phrasing.specs.declared.forms.Slot.{Slot}
+use Rattle.phrasing.specs.Meant.{sortOf, slotOf}
+use Rattle.spelling.proofs.AddedLaws.{nothing, joined, named}
 use Rattle.printing.proofs.LaidLaws.{argument-one}
 use borrow.Author.Needs.{needs}
 use Rattle.printing.proofs.lines.argument.Statement.{statement}

@@ -2,9 +2,9 @@
 use mathlib.Core.Path.{sym, ap}
 use Rattle.text.specs.Words.{ascii}
 use Rattle.text.specs.Printing.{indent}
-use Rattle.printing.specs.declared.forms.Sort.{Sort}
-use Rattle.printing.specs.Meant.{sortOf}
-use Rattle.printing.proofs.AddedLaws.{nothing, named}
+use Rattle.phrasing.specs.declared.forms.Sort.{Sort}
+use Rattle.phrasing.specs.Meant.{sortOf}
+use Rattle.spelling.proofs.AddedLaws.{nothing, named}
 use borrow.Author.Needs.{needs}
 use Rattle.printing.proofs.lines.begin.Statement.{statement}
 use Rattle.printing.proofs.lines.begin.Tie as tie

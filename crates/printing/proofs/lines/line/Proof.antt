@@ -2,7 +2,7 @@
 use mathlib.Core.Path.{sym}
 use lib.Seq.{length-take-le}
 use Rattle.printing.specs.Laid.{lineAs}
-use Rattle.printing.proofs.AddedLaws.{joined}
+use Rattle.spelling.proofs.AddedLaws.{joined}
 use borrow.Author.Needs.{needs}
 use Rattle.printing.proofs.lines.line.Statement.{statement}
 use Rattle.printing.proofs.lines.line.Tie as tie

@@ -3,7 +3,7 @@ use mathlib.Core.Path.{ap}
 use Prim.Native.Nat.{ℕ}
 use native.Mathlib.Omega.{arith}
 use Rattle.text.specs.Printing.{stepsText}
-use Rattle.printing.specs.Meant.{sortOf}
+use Rattle.phrasing.specs.Meant.{sortOf}
 use Rattle.printing.proofs.LaidLaws.{laid-end, laid-as, laid-both, laid-first}
 use borrow.Author.Needs.{needs}
 use Rattle.printing.proofs.lines.node_lines.Statement.{statement}

@@ -4,8 +4,8 @@ use native.Mathlib.Omega.{arith}
 use Prim.Native.Nat.{ℕ}
 use lib.ListN.{getD}
 use Rattle.policy.proofs.NumberLaws.{number-byte}
-use Rattle.printing.specs.Meant.{sortOf, Means}
-use Rattle.printing.proofs.FieldLaws.{size-least}
+use Rattle.phrasing.specs.Meant.{sortOf, Means}
+use Rattle.phrasing.proofs.FieldLaws.{size-least}
 use Rattle.printing.proofs.LaidLaws.{laid-text, laid-none, laid-as, record-told, record-untold}
 use borrow.Author.Needs.{needs}
 use Rattle.printing.proofs.lines.record_line.Statement.{statement}

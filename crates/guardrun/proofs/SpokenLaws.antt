@@ -1,0 +1,25 @@
+-- What is said of a call, from what is said of its answer. Assumes nothing.
+use Prim.Native.Nat.{ℕ}
+use mathlib.Core.Path.{_≡_, sym, ap₂, _∙_, subst}
+use Rattle.policy.specs.Bytes.{Bytes}
+use Rattle.turns.specs.Status.{statusOf}
+use Rattle.turns.specs.Turn.{Request}
+use Rattle.turns.specs.Entries.{Reply, answers, refuses, Result}
+use Rattle.answering.specs.Replies.{Gave}
+use Rattle.answering.specs.declared.Answer.{Answer}
+use Rattle.answering.specs.declared.Answer.the-variants.{Answered, Refused}
+use Rattle.answering.proofs.Heard.{heard, heard-refusal}
+use Rattle.reporting.specs.Said.{Said, said}
+use Rattle.reporting.specs.Speaks.{Speaks}
+use Rattle.reporting.specs.declared.Told.{Told}
+use Rattle.guardrun.specs.Spoke.{Spoke}
+
+module _ {x : Result} {q : Request} {r : Answer} {saved room before after : Bytes} {t : Told} (g : Gave x r saved room) where
+  spoke : (p : Reply) → x .reply ≡ p → Speaks (said q p room) before after t → Spoke x q saved room before after t
+  spoke p e h = record { state = g .state; events = g .events; speaks = subst (λ (s : Said). Speaks s before after t) (ap₂ (said q) (sym e) (g .events)) h }
+
+  pub spoke-answered : {n k : ℕ} → r ≡ Answered n k → Speaks (said q (answers n (statusOf k)) room) before after t → Spoke x q saved room before after t
+  spoke-answered {n} {k} e h = spoke (answers n (statusOf k)) (heard (x .reply) n k (sym e ∙ g .answer)) h
+
+  pub spoke-refused : {n : ℕ} → r ≡ Refused n → Speaks (said q (refuses n) room) before after t → Spoke x q saved room before after t
+  spoke-refused {n} e h = spoke (refuses n) (heard-refusal (x .reply) n (sym e ∙ g .answer)) h

@@ -1,0 +1,172 @@
+-- Text put after text: nothing, two pieces, numbers and members of a set. Assumes nothing.
+use Prim.Native.Nat.{ℕ, zero, suc, _+_, _-_, _/_, _%_, _^_, _≤_, _<_}
+use native.Mathlib.Nat.{pow-suc}
+use native.Mathlib.Omega.{arith}
+use mathlib.Core.Path.{_≡_, refl, sym, ap, _∙_, subst}
+use mathlib.Core.Bool.{Bool, true, false, _&&_, not}
+use mathlib.Core.List.{List, [], _∷_, _++_, append-assoc, append-nil}
+use lib.Dec.{ltb}
+use lib.ListN.{length, take, drop, length-append, length-take, length-drop, take-append-drop}
+use lib.Seq.{take-at, take-length, drop-append-le, drop-drop}
+use borrow.Author.Tests.{lt-ltb, le-ltb}
+use borrow.Rule.Slice.PartMut.{putMid, midOf}
+use Rattle.actions.specs.Sets.{ActionSet, has}
+use Rattle.policy.specs.Bytes.{Bytes, put}
+use Rattle.policy.proofs.ByteLaws.{put-length, put-append}
+use Rattle.text.specs.Words.{space, ascii}
+use Rattle.text.specs.Numerals.{digit, digits, decimal}
+use Rattle.text.specs.Printing.{listing, spaced}
+use Rattle.spelling.specs.Added.{Added, Tells, led}
+use Rattle.spelling.specs.Refusal.{refusal}
+
+pub nothing : (a : Bytes) (at : ℕ) → Added a at [] a at
+unfolding put
+nothing a at =
+    let z : at ≡ at + 0 = omega arith in
+    record { ends = λ l. omega arith; told = λ h. (sym (take-append-drop at a) ∙ ap (λ (k : ℕ). take at a ++ drop k a) z, z) }
+
+pub joined : {a b c x y : Bytes} {at r s : ℕ} → Added a at x b r → Added b r y c s → Added a at (x ++ y) c s
+joined {a} {b} {c} {x} {y} {at} {r} {s} p q = record {
+  ends = λ l. let e = p .ends l in rw (length-append x y) (omega (arith, q .ends (omega arith)));
+  told = λ h.
+      let n : length (x ++ y) ≡ length x + length y = length-append x y in
+      let f = p .told (omega arith) in
+      let m : length b ≡ length a = ap length (f .0) ∙ put-length a at x (omega arith) in
+      let g = q .told (omega (arith, f .1)) in
+      (g .0 ∙ ap (λ (z : Bytes). put z r y) (f .0) ∙ put-append a at x r y (f .1) (omega (arith, f .1)), omega (arith, f .1, g .1));
+}
+
+pub named : {a b x y : Bytes} {at r : ℕ} → Added a at x b r → x ≡ y → Added a at y b r
+named {a} {b} {x} {y} {at} {r} p e = subst (λ (z : Bytes). Added a at z b r) e p
+
+-- what was put at the beginning, with room for it
+pub tells : {a b x : Bytes} {r : ℕ} → Added a 0 x b r → length x ≤ length a → Tells b r x
+unfolding put
+tells {a} {b} {x} {r} p h =
+    let f = p .told (omega arith) in
+    record {
+      text = ap (take r) (f .0) ∙ take-at x (drop (0 + length x) a) r (omega (arith, f .1));
+      inside = omega (arith, f .1, ap length (f .0), put-length a 0 x (omega arith));
+    }
+
+-- ---- a piece copied to its place
+
+pub copied : (out t after : Bytes) (at : ℕ) → at + length t ≤ length out → after ≡ take (length t) t ++ drop (length t) (midOf at (length out - at) out)
+    → putMid at (length out - at) out after ≡ put out at t
+unfolding put
+copied out t after at h e =
+    let n : ℕ = length t in
+    let k : ℕ = length out - at in
+    let m : Bytes = take k (drop at out) in
+    let l : n ≤ length m = simp (length-take, length-drop) (omega arith) in
+    rw (e, take-length t) (ap (λ (z : Bytes). take at out ++ z) (append-assoc t (drop n m) (drop k (drop at out))
+    ∙ ap (λ (z : Bytes). t ++ z) (sym (drop-append-le n m (drop k (drop at out)) l) ∙ ap (drop n) (take-append-drop k (drop at out)) ∙ drop-drop n at out)))
+
+-- ---- numbers
+
+digits-short : (k n : ℕ) → n < 10 → digits k n ≡ digit n ∷ []
+unfolding digits
+digits-short zero n h = refl
+digits-short (suc k) n h = rw (digits, lt-ltb n 10 h)
+
+-- as many digits as there may be are enough
+digits-same : (k m n : ℕ) → n ≤ k + 9 → n ≤ m + 9 → digits k n ≡ digits m n
+unfolding digits
+digits-same zero m n h l = sym (digits-short m n (omega arith))
+digits-same (suc k) zero n h l = digits-short (suc k) n (omega arith)
+digits-same (suc k) (suc m) n h l = go (ltb n 10) refl (digits-same k m (n / 10))
+  where
+    go : (b : Bool) → ltb n 10 ≡ b → (n / 10 ≤ k + 9 → n / 10 ≤ m + 9 → digits k (n / 10) ≡ digits m (n / 10)) → digits (suc k) n ≡ digits (suc m) n
+    go true e r = rw (digits, e)
+    go false e r = rw (digits, e) (ap (λ (w : Bytes). w ++ (digit (n % 10) ∷ [])) (r (omega arith) (omega arith)))
+
+pub decimal-one : (n : ℕ) → n < 10 → digit n ∷ [] ≡ decimal n
+unfolding decimal
+decimal-one n h = sym (digits-short n n h)
+
+-- the first digits and the last
+pub decimal-last : (n : ℕ) → 10 ≤ n → decimal (n / 10) ++ (digit (n % 10) ∷ []) ≡ decimal n
+unfolding decimal digits
+decimal-last zero h = absurd (omega arith)
+decimal-last (suc k) h =
+    rw (le-ltb (suc k) 10 h, digits) (ap (λ (w : Bytes). w ++ (digit (suc k % 10) ∷ [])) (digits-same (suc k / 10) k (suc k / 10) (omega arith) (omega arith)))
+
+-- ---- members
+
+module _ (f : Bool) (v : ActionSet) (a : ℕ) where
+  pub member-none : has v a ≡ false → [] ≡ led f (listing v a 1)
+  unfolding listing led spaced
+  member-none e = rw (e, listing) (none f)
+    where
+      none : (g : Bool) → [] ≡ led g []
+      none true = refl
+      none false = refl
+
+  pub member-first : has v a ≡ true → f ≡ true → decimal a ≡ led f (listing v a 1)
+  unfolding listing led spaced
+  member-first e g = rw (g, e, listing)
+
+  pub member-next : has v a ≡ true → f ≡ false → space ∷ decimal a ≡ led f (listing v a 1)
+  unfolding listing led spaced
+  member-next e g = rw (g, e, listing)
+
+  -- the first of them, and the others
+  led-more : (xs : List ℕ) → led f (a ∷ []) ++ led false xs ≡ led f (a ∷ xs)
+  unfolding led spaced
+  led-more [] = append-nil (led f (a ∷ []))
+  led-more (x ∷ xs) = go f
+    where
+      go : (g : Bool) → led g (a ∷ []) ++ led false (x ∷ xs) ≡ led g (a ∷ x ∷ xs)
+      go true = refl
+      go false = refl
+
+  pub members-next : (n : ℕ) → led f (listing v a 1) ++ led (f && not (has v a)) (listing v (suc a) n) ≡ led f (listing v a (suc n))
+  unfolding listing led spaced
+  members-next n = go (has v a) refl
+    where
+      none : (g : Bool) (xs : List ℕ) → led g [] ++ led (g && true) xs ≡ led g xs
+      none true xs = refl
+      none false xs = refl
+
+      never : (g : Bool) → (g && false) ≡ false
+      never true = refl
+      never false = refl
+
+      go : (b : Bool) → has v a ≡ b → led f (listing v a 1) ++ led (f && not (has v a)) (listing v (suc a) n) ≡ led f (listing v a (suc n))
+      go true e = rw (listing, e) (ap (λ (g : Bool). led f (a ∷ []) ++ led g (listing v (suc a) n)) (never f) ∙ led-more (listing v (suc a) n))
+      go false e = rw (listing, e) (none f (listing v (suc a) n))
+
+  pub members-more : a < 64 → led f (listing v a 1) ++ led (f && not (has v a)) (listing v (a + 1) (64 - (a + 1))) ≡ led f (listing v a (64 - a))
+  members-more h =
+      let z : a + 1 ≡ suc a = omega arith in
+      let y : suc (64 - (a + 1)) ≡ 64 - a = omega arith in
+      ap (λ (k : ℕ). led f (listing v a 1) ++ led (f && not (has v a)) (listing v k (64 - (a + 1)))) z ∙ members-next (64 - (a + 1)) ∙ ap (λ (k : ℕ). led f (listing v a k)) y
+
+  pub none-left : 64 ≤ a → [] ≡ led f (listing v a (64 - a))
+  unfolding listing led spaced
+  none-left h = let z : 64 - a ≡ 0 = omega arith in none f ∙ ap (λ (k : ℕ). led f (listing v a k)) (sym z)
+    where
+      none : (g : Bool) → [] ≡ led g (listing v a 0)
+      none true = refl
+      none false = refl
+
+-- ---- how long a number is
+
+digits-below : (j k n : ℕ) → n < 10 ^ suc j → length (digits k n) ≤ suc j
+unfolding digits
+digits-below zero k n h = rw (digits-short k n (omega arith)) (omega arith)
+digits-below (suc j) zero n h = omega arith
+digits-below (suc j) (suc k) n h = go (ltb n 10) refl (digits-below j k (n / 10) (omega (arith, h, pow-suc 10 (suc j))))
+  where
+    go : (b : Bool) → ltb n 10 ≡ b → length (digits k (n / 10)) ≤ suc j → length (digits (suc k) n) ≤ suc (suc j)
+    go true e l = rw (digits, e) (omega arith)
+    go false e l = rw (digits, e) (simp length-append (omega arith))
+
+pub decimal-below : (j n : ℕ) → n < 10 ^ suc j → length (decimal n) ≤ suc j
+unfolding decimal
+decimal-below j n h = digits-below j n n h
+
+-- a refusal's number is a byte
+pub refusal-short : (n : ℕ) → n < 256 → length (refusal n) ≤ 12
+unfolding refusal ascii
+refusal-short n h = simp length-append (omega (arith, decimal-below 2 n (omega arith)))
