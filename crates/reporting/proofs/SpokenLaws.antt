@@ -1,6 +1,5 @@
 -- What is said of a call, alone in a buffer. Assumes nothing.
 use Prim.Native.Nat.{ℕ, _≤_}
-use native.Mathlib.Omega.{arith}
 use mathlib.Core.Path.{_≡_, sym, ap}
 use mathlib.Core.Bool.{Bool}
 use lib.ListN.{length}
@@ -9,7 +8,6 @@ use Rattle.turns.specs.Turn.{Request}
 use Rattle.answering.specs.Requests.{asked}
 use Rattle.answering.specs.declared.Call.{Call}
 use Rattle.spelling.specs.Added.{Added}
-use Rattle.spelling.proofs.AddedLaws.{tells}
 use Rattle.reporting.specs.Speaks.{textRoom, Speaks}
 
 -- what is said of a request is said of the call that asks it
@@ -18,4 +16,4 @@ by-call f e = ap (λ (x : Call). f (asked x)) (sym e)
 
 -- a text alone in the buffer
 pub alone : {a b x : Bytes} {r : ℕ} {o p : Bool} → Added a 0 x b r → p ≡ o → length x ≤ textRoom → Speaks (record { text = x; over = o }) a b (record { end = r; over = p })
-alone p e h = record { text = λ room. tells p (omega arith); over = e }
+alone p e h = record { added = p; short = h; over = e }

@@ -3,7 +3,7 @@ use Prim.Native.Nat.{ℕ, _≤_}
 use mathlib.Core.Path.{_≡_}
 use lib.ListN.{length}
 use Rattle.policy.specs.Bytes.{Bytes}
-use Rattle.spelling.specs.Added.{Tells}
+use Rattle.spelling.specs.Added.{Added}
 use Rattle.reporting.specs.Said.{Said}
 use Rattle.reporting.specs.declared.Told.{Told}
 
@@ -11,7 +11,8 @@ use Rattle.reporting.specs.declared.Told.{Told}
 abbrev pub textRoom : ℕ
 textRoom = 2075
 
--- The buffer, with room for any text, begins with what is said.
+-- What is said stands at the buffer's beginning, if there is room for it, and all else is as it was.
 pub record Speaks (s : Said) (before after : Bytes) (t : Told) : Type 0 where
-  pub text : textRoom ≤ length before → Tells after (t .end) (s .text)
+  pub added : Added before 0 (s .text) after (t .end)
+  pub short : length (s .text) ≤ textRoom
   pub over : t .over ≡ s .over

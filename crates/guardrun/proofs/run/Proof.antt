@@ -3,6 +3,7 @@ use mathlib.Core.Path.{_≡_}
 use native.Mathlib.Omega.{arith}
 use lib.ListN.{length}
 use borrow.Author.Needs.{needs}
+use Rattle.spelling.proofs.AddedLaws.{tells}
 use Rattle.guardrun.proofs.run.Statement.{statement}
 use Rattle.guardrun.proofs.run.Tie as tie
 
@@ -13,7 +14,9 @@ abbrev μ-loop : tie.MeasureT-loop
 μ-loop policy state₀ events₀ text₀ request₀ left₀ state events text request left = left
 
 say-requires : tie.Need-say-requires Inv-loop μ-loop
-say-requires c κs = c .before .before .before .before .tell .ensures .speaks .text (omega (arith, c .before .before .before .before .before .before .before .before .before .loop .inv .2)) .inside
+say-requires c κs =
+    let s = c .before .before .before .before .tell .ensures .speaks in
+    tells (s .added) (omega (arith, s .short, c .before .before .before .before .before .before .before .before .before .loop .inv .2)) .inside
 
 pub run-spec : {M : Type 1} → statement M
 run-spec =
