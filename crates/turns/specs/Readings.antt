@@ -2,7 +2,7 @@
 -- it a count of steps, which no answer shows, and the refusals of the calls. Assumes nothing.
 use Prim.Native.Nat.{ℕ}
 use mathlib.Core.Path.{_≡_}
-use mathlib.Core.List.{List, [], _∷_, map}
+use mathlib.Core.List.{List, [], _∷_, _++_, map}
 use lib.ListN.{replicate}
 use Rattle.policy.specs.Bytes.{Bytes}
 use Rattle.policy.specs.Tree.{Tree, tree}
@@ -124,20 +124,40 @@ refusedBy x = record { reply = refuses (x .number); state = x .state; events = x
 unfoldable pub givenBy : Asking → Result
 givenBy x = entry (x .policy) (x .request) (x .state) (x .room)
 
+-- closing it from this state is refused 12
+unfoldable pub unfit : Bytes → Bytes → Asking
+unfit policy state = record { policy = policy; request = close; state = state; room = replicate 512 7; number = 12 }
+
+-- the state of a pair: statuses of its node and of its two sides, and zeros
+unfoldable pub pairState : ℕ → ℕ → ℕ → Bytes
+pairState n l r = n ∷ replicate 7 0 ++ (l ∷ replicate 7 0 ++ (r ∷ replicate 231 0))
+
 unfoldable pub refusedCalls : List Asking
-unfolding built
+unfolding built unfit pairState
 refusedCalls =
     record { policy = []; request = opening; state = []; room = []; number = 1 }
     -- 11 before 12, 13 and 14
     ∷ record { policy = alone bottom; request = offer 64; state = replicate 247 9; room = replicate 512 7; number = 11 }
     ∷ record { policy = alone bottom; request = close; state = 5 ∷ replicate 248 0; room = replicate 512 7; number = 11 }
     ∷ record { policy = alone bottom; request = opening; state = replicate 248 0; room = replicate 511 7; number = 11 }
-    -- 12: no status 0; a leaf at a step that is no next; a counter above its start; two bytes that are not zero; a record too many
+    -- 12 before 13: no status 0
     ∷ record { policy = alone bottom; request = offer 64; state = replicate 248 0; room = replicate 512 7; number = 12 }
-    ∷ record { policy = alone L; request = close; state = 1 ∷ 1 ∷ replicate 246 0; room = replicate 512 7; number = 12 }
-    ∷ record { policy = alone L; request = close; state = 1 ∷ 0 ∷ 0 ∷ 0 ∷ 0 ∷ 0 ∷ 0 ∷ 4 ∷ replicate 240 0; room = replicate 512 7; number = 12 }
-    ∷ record { policy = alone L; request = close; state = 1 ∷ 0 ∷ 0 ∷ 1 ∷ replicate 244 0; room = replicate 512 7; number = 12 }
-    ∷ record { policy = alone bottom; request = close; state = 5 ∷ 0 ∷ 0 ∷ 0 ∷ 0 ∷ 0 ∷ 0 ∷ 0 ∷ 6 ∷ replicate 239 0; room = replicate 512 7; number = 12 }
+    -- a leaf at a step that is no next; a counter above its start; two bytes that are not zero; a record too many; the root dropped
+    ∷ unfit (alone L) (1 ∷ 1 ∷ replicate 246 0)
+    ∷ unfit (alone L) (1 ∷ 0 ∷ 0 ∷ 0 ∷ 0 ∷ 0 ∷ 0 ∷ 4 ∷ replicate 240 0)
+    ∷ unfit (alone L) (1 ∷ 0 ∷ 0 ∷ 1 ∷ replicate 244 0)
+    ∷ unfit (alone bottom) (5 ∷ 0 ∷ 0 ∷ 0 ∷ 0 ∷ 0 ∷ 0 ∷ 0 ∷ 6 ∷ replicate 239 0)
+    ∷ unfit (alone top) (6 ∷ replicate 247 0)
+    -- a running "and" with a halted side, with both ended; a running "or" with an ended side, with both halted
+    ∷ unfit (pair 4 bottom top) (pairState 1 5 2)
+    ∷ unfit (pair 4 top top) (pairState 1 2 2)
+    ∷ unfit (pair 6 bottom top) (pairState 1 5 2)
+    ∷ unfit (pair 6 bottom bottom) (pairState 1 5 5)
+    -- an "and" is not ended by one side, an "or" not by both; a side is dropped under a decided node, and under no other
+    ∷ unfit (pair 4 top top) (pairState 3 6 6)
+    ∷ unfit (pair 6 top top) (pairState 2 6 6)
+    ∷ unfit (pair 4 top top) (pairState 2 2 2)
+    ∷ unfit (pair 4 top W) (pairState 1 2 6)
     -- 13 before 14
     ∷ record { policy = alone bottom; request = offer 64; state = 5 ∷ replicate 247 0; room = replicate 512 7; number = 13 }
     ∷ record { policy = alone bottom; request = offer 63; state = 5 ∷ replicate 247 0; room = replicate 512 7; number = 14 }
