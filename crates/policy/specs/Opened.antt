@@ -1,4 +1,4 @@
--- Every definition of this crate by one name: a proof that computes with them says `unfolding opened`. Assumes nothing.
+-- The definitions of this crate that computing opens, by one name: a proof that computes with them says `unfolding opened`. Assumes nothing.
 use Rattle.policy.specs.Lists.{listed, summed, one, occurs, among, every, everyAt}
 use Rattle.policy.specs.Bytes.{spelt, number, spell, put}
 use Rattle.policy.specs.Records.{lengthField, versionField, nodeCount, stepCount, nodeAt, rowAt, nodePlace, rowPlace, nodes, rows, nodeBytes, stepBytes}

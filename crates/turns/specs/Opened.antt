@@ -1,4 +1,4 @@
--- Every definition of this crate by one name: a proof that computes with them says `unfolding opened`. Assumes nothing.
+-- The definitions of this crate that computing opens, by one name: a proof that computes with them says `unfolding opened`. Assumes nothing.
 use Rattle.turns.specs.Status.{statusNumber, statusOf, isRunning, hasEnded, isHalted, isDecided, joined}
 use Rattle.turns.specs.State.{status, asked, offset, counter, leftOf, rightOf, leafOver, drop, noded, settled}
 use Rattle.turns.specs.Process.{touches, then, outcome, trace, items}
