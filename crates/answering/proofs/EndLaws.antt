@@ -19,7 +19,7 @@ use Rattle.turns.specs.State.{State, status}
 use Rattle.turns.specs.Turn.{verdict}
 use Rattle.turns.specs.Events.{Event, eventOf, eventBytes}
 use Rattle.turns.specs.Saved.{statusAt, cell, saved}
-use Rattle.turns.proofs.Cells.{Below, cellAt, Kept, lawful-apart, status-is, saved-length, saved-kept}
+use Rattle.conduct.proofs.Cells.{Below, cellAt, Kept, lawful-apart, status-is, saved-length, saved-kept}
 use Rattle.answering.specs.declared.Answer.the-variants.{Answered}
 use Rattle.answering.specs.Ends.{verdicts, Added, Ended}
 

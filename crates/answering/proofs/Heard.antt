@@ -7,9 +7,9 @@ use Rattle.policy.specs.Bytes.{Bytes}
 use Rattle.turns.specs.Status.{statusNumber, statusOf}
 use Rattle.turns.specs.Turn.{Request}
 use Rattle.turns.specs.Entries.{Reply, answers, refuses, entry}
-use Rattle.turns.proofs.Answered.{answered, room-kept}
-use Rattle.turns.proofs.Bounds.{answered-emits}
-use Rattle.turns.proofs.Cells.{status-back}
+use Rattle.conduct.proofs.Answered.{answered, room-kept}
+use Rattle.conduct.proofs.Bounds.{answered-emits}
+use Rattle.conduct.proofs.Cells.{status-back}
 use Rattle.answering.specs.Replies.{spoken, Gave}
 use Rattle.answering.specs.declared.Answer.{Answer}
 use Rattle.answering.specs.declared.Answer.the-variants.{Answered, Refused}

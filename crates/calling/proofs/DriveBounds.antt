@@ -16,10 +16,10 @@ use Rattle.turns.specs.State.{State, status}
 use Rattle.turns.specs.Process.{Item, accepts, Out, Process, stop, does, both, then, outcome, trace, items}
 use Rattle.turns.specs.Turn.{Phase, before, after, quiet, isAsked, perhaps, verdict, phase, offer, call}
 use Rattle.turns.specs.Events.{Event, accepted, inserted, eventOf, events}
-use Rattle.turns.proofs.Count.{worth, count, events-append}
-use Rattle.turns.proofs.Spread.{phase-bound, turn-bound, events-count}
-use Rattle.turns.proofs.Throughout.{phase-no-verdict}
-use Rattle.turns.proofs.Work.{phase-steps}
+use Rattle.conduct.proofs.Count.{worth, count, events-append}
+use Rattle.conduct.proofs.Spread.{phase-bound, turn-bound, events-count}
+use Rattle.conduct.proofs.Throughout.{phase-no-verdict}
+use Rattle.conduct.proofs.Work.{phase-steps}
 use Rattle.memory.specs.Run.{insertsOf, stepsOf, endOf}
 use Rattle.memory.specs.Memory.{ranOf}
 use Rattle.answering.specs.Ends.{verdicts}

@@ -6,7 +6,7 @@ use mathlib.Core.List.{List, [], _∷_, _++_}
 use lib.ListN.{length}
 use Rattle.policy.specs.Bytes.{Bytes, put}
 use Rattle.policy.proofs.ByteLaws.{put-append}
-use Rattle.turns.proofs.Bounds.{two-each}
+use Rattle.conduct.proofs.Bounds.{two-each}
 use Rattle.turns.specs.Events.{Event, accepted, suppressed, inserted, eventBytes}
 
 bytes-append : (es fs : List Event) → eventBytes (es ++ fs) ≡ eventBytes es ++ eventBytes fs

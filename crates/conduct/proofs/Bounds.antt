@@ -9,14 +9,14 @@ use Rattle.policy.specs.Tree.{tree}
 use Rattle.policy.proofs.ByteLaws.{put-length, drop-after}
 use Rattle.rules.specs.Spread.{spread}
 use Rattle.rules.proofs.LawfulTree.{lawful, spread-255}
 use Rattle.turns.specs.Status.{Status}
 use Rattle.turns.specs.Process.{items, trace}
 use Rattle.turns.specs.Turn.{Request, call}
 use Rattle.turns.specs.Events.{Event, accepted, suppressed, inserted, events, eventBytes}
 use Rattle.turns.specs.Saved.{load}
 use Rattle.turns.specs.Entries.{Reply, answers, refuses, eventRoom, Result, carriedOut, entry}
-use Rattle.turns.proofs.Spread.{events-bound}
-use Rattle.turns.proofs.Answered.{Answered, answered, room-kept, file-passed}
+use Rattle.conduct.proofs.Spread.{events-bound}
+use Rattle.conduct.proofs.Answered.{Answered, answered, room-kept, file-passed}
 
 pub two-each : (es : List Event) → length (eventBytes es) ≡ 2 * length es
 unfolding eventBytes

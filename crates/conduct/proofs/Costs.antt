@@ -12,13 +12,13 @@ use Rattle.policy.specs.Steps.{Step, halt, isNext, isIns}
 use Rattle.policy.specs.Tree.{parallel, sequential, Join, Tree, leaf, trivial, unsatisfiable, node, regulated}
 use Rattle.rules.specs.Spread.{insCount, spreadOf, spread}
 use Rattle.rules.specs.Lawful.{LawfulLeaf, Lawful}
 use Rattle.turns.specs.Status.{isRunning, isHalted, joined}
 use Rattle.turns.specs.State.{State, over, status, asked, offset, counter, leftOf, rightOf, drop, noded, settled}
 use Rattle.turns.specs.Process.{Item, ran, lets, sups, accepts, suppresses, Out, Process, stop, does, both, outcome}
 use Rattle.turns.specs.Turn.{Phase, before, after, closing, Behaviour, quiet, takeOf, doneOf, leafWork, parallelWork, judged, emitted, given}
 use Rattle.turns.specs.Turn.{feed, sequentialWork, isAsked, ifAsked, phase, fresh, Request, opening, offer, close, verdict, call}
-use Rattle.turns.proofs.Count.{worth, count, weight, weight-then, weight-if, weight-unless}
-use Rattle.turns.proofs.Count.{weight-perhaps, noneIf, none-le, owing, owing-le, price, prices, ahead, goes-le}
+use Rattle.conduct.proofs.Count.{worth, count, weight, weight-then, weight-if, weight-unless}
+use Rattle.conduct.proofs.Count.{weight-perhaps, noneIf, none-le, owing, owing-le, price, prices, ahead, goes-le}
 
 -- ---- a bounded behaviour
 

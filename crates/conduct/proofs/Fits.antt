@@ -17,14 +17,14 @@ use Rattle.policy.specs.Tree.{Way, Join, and, or, Tree, leaf, trivial, unsatisf
 use Rattle.policy.proofs.ListLaws.{every-drop}
 use Rattle.policy.proofs.ByteLaws.{drop-after, zeros-every, number-zeros}
 use Rattle.rules.specs.Lawful.{holds}
 use Rattle.turns.specs.Status.{Status, running, ended, endedLeft, endedRight, halted, dropped, statusNumber, statusOf, isRunning, hasEnded, isHalted, joined}
 use Rattle.turns.specs.State.{State, at, over, status, offset, counter, leftOf, rightOf}
 use Rattle.turns.specs.Saved.{stateSize, cellPlace, statusAt, offsetAt, zerosAt, counterAt, cell, load, store, saved, droppedWith, isRunningAt, statuses, undecided, bare}
 use Rattle.turns.specs.Saved.{waitsAt, fitsUnder, zerosUpTo, fits}
 use Rattle.turns.proofs.Rest.{gone, decidedBy, Rest, leaf-waits, leaf-ended, leaf-halted, trivial-ended, unsatisfiable-halted, pair-runs, pair-decided}
-use Rattle.turns.proofs.Cells.{Below, below-more, below-here, below-left, below-right, Apart, Sized, cellAt, cell-length, cell-same, put-size, put-cell, put-elsewhere}
-use Rattle.turns.proofs.Cells.{store-sized, zeros-is, zero-word, status-back, status-is, offset-is, counter-is, Kept, kept-load, rest-stored, saved-kept, saved-length}
+use Rattle.conduct.proofs.Cells.{Below, below-more, below-here, below-left, below-right, Apart, Sized, cellAt, cell-length, cell-same, put-size, put-cell, put-elsewhere}
+use Rattle.conduct.proofs.Cells.{store-sized, zeros-is, zero-word, status-back, status-is, offset-is, counter-is, Kept, kept-load, rest-stored, saved-kept, saved-length}
 use Rattle.turns.proofs.StatusLaws.{is-running}
 
 -- ---- a running pair
 

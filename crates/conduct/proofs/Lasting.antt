@@ -19,19 +19,19 @@ use Rattle.rules.proofs.Numbers.{same-node}
 use Rattle.rules.specs.Passed.{Passed}
 use Rattle.rules.proofs.Rows.{counts-fit, leaf-steps}
 use Rattle.rules.proofs.LawfulTree.{lawful, numbers-below-nodes}
 use Rattle.turns.specs.Status.{Status, dropped, isDecided}
 use Rattle.turns.specs.State.{State, status}
 use Rattle.turns.specs.Process.{outcome}
 use Rattle.turns.specs.Turn.{Request, opening, offer, close, call}
 use Rattle.turns.specs.Saved.{stateSize, load, saved, fits}
 use Rattle.turns.specs.Entries.{Reply, answers, refuses, carriedOut, Result, entry}
 use Rattle.turns.proofs.Rest.{Rest, Over}
-use Rattle.turns.proofs.Cells.{Below, Sized, lawful-apart, saved-length, load-saved}
-use Rattle.turns.proofs.Fits.{fits-load, fits-saved}
+use Rattle.conduct.proofs.Cells.{Below, Sized, lawful-apart, saved-length, load-saved}
+use Rattle.conduct.proofs.Fits.{fits-load, fits-saved}
 use Rattle.turns.proofs.States.{rest-decided}
 use Rattle.turns.proofs.Walk.{call-fine, close-over, opening-fine}
-use Rattle.turns.proofs.Answered.{Answered, answered, Reads, state-fits, file-passed}
-use Rattle.turns.proofs.Steps.{waits-in}
+use Rattle.conduct.proofs.Answered.{Answered, answered, Reads, state-fits, file-passed}
+use Rattle.conduct.proofs.Steps.{waits-in}
 
 -- ---- sizes
 

@@ -8,12 +8,12 @@ use Rattle.actions.specs.Sets.{Action}
 use Rattle.policy.specs.Tree.{Tree}
 use Rattle.rules.specs.Spread.{spread}
 use Rattle.rules.specs.Lawful.{Lawful}
 use Rattle.turns.specs.State.{State}
 use Rattle.turns.specs.Process.{Item, ran, lets, sups, accepts, suppresses, Process, outcome, items, trace}
 use Rattle.turns.specs.Turn.{Phase, before, after, phase, Request, call}
 use Rattle.turns.specs.Events.{events, eventOf}
-use Rattle.turns.proofs.Count.{worth, valued, count, count-items}
-use Rattle.turns.proofs.Costs.{cost-spread, phase-cost, turn-cost, call-cost}
+use Rattle.conduct.proofs.Count.{worth, valued, count, count-items}
+use Rattle.conduct.proofs.Costs.{cost-spread, phase-cost, turn-cost, call-cost}
 
 -- Inserts count one each and verdicts z each: 0 counts the inserts alone, 1 counts the events.
 module _ (z : ℕ) where

@@ -12,14 +12,14 @@ use Rattle.actions.specs.Sets.{Action, ActionSet, has}
 use Rattle.policy.specs.Steps.{Step, next, ok, sup, ins, acase, spend, end, halt, targets, isNext}
 use Rattle.policy.specs.Tree.{leaf}
 use Rattle.rules.specs.Lawful.{AllAhead, Inside, Forward, LawfulLeaf}
 use Rattle.turns.specs.Status.{running, isRunning}
 use Rattle.turns.specs.State.{State, at, status, asked, offset, counter}
 use Rattle.turns.specs.Process.{Item, ran, lets, sups, accepts, suppresses, Out, Process, does, outcome, items, trace}
 use Rattle.turns.specs.Turn.{before, after, closing, quiet, goes, takeOf, doneOf, leafWork, isAsked, ifAsked, phase, fresh}
 use Rattle.turns.specs.Events.{stepsRun}
 use Rattle.turns.proofs.Rest.{Rest, leaf-waits, leaf-ended, leaf-halted}
-use Rattle.turns.proofs.Fuel.{in-leaf}
-use Rattle.turns.proofs.Count.{worth, valued, count, count-items, weight, weight-if, noneIf, none-le, owing, price, prices, ahead, ahead-in, ahead-target, goes-le}
+use Rattle.conduct.proofs.Fuel.{in-leaf}
+use Rattle.conduct.proofs.Count.{worth, valued, count, count-items, weight, weight-if, noneIf, none-le, owing, price, prices, ahead, ahead-in, ahead-target, goes-le}
 
 -- how many steps a process runs
 abbrev pub steps : Process → ℕ

@@ -18,12 +18,12 @@ use Rattle.rules.specs.Lawful.{holds, Disjoint, Lawful}
 use Rattle.rules.proofs.LawfulTree.{lawful, numbers-below-nodes, spread-255, leaf-length}
 use Rattle.rules.specs.Passed.{Passed}
 use Rattle.rules.proofs.Rows.{counts-fit}
 use Rattle.turns.specs.State.{State}
 use Rattle.turns.specs.Process.{items, trace}
 use Rattle.turns.specs.Turn.{Phase, phase}
 use Rattle.turns.specs.Events.{stepsRun}
-use Rattle.turns.proofs.Steps.{step-prices, steps-count}
-use Rattle.turns.proofs.Costs.{cost, phase-cost}
+use Rattle.conduct.proofs.Steps.{step-prices, steps-count}
+use Rattle.conduct.proofs.Costs.{cost, phase-cost}
 use Rattle.policy.proofs.ListLaws.{one-most}
 
 -- ---- the leaves: each has a number of its own

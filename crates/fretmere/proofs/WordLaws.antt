@@ -7,7 +7,7 @@ use Rattle.rules.specs.Check.{Answer as Checked, passes, refused}
 use Rattle.turns.specs.Status.{statusNumber}
 use Rattle.turns.specs.Turn.{Request}
 use Rattle.turns.specs.Entries.{Reply, answers, refuses, entry}
-use Rattle.turns.proofs.Bounds.{answered-emits}
+use Rattle.conduct.proofs.Bounds.{answered-emits}
 use Rattle.answering.specs.declared.Answer as guard
 use Rattle.answering.specs.declared.Answer.the-variants.{Answered, Refused}
 use Rattle.answering.specs.Replies.{spoken}

@@ -14,7 +14,7 @@ use Rattle.rules.proofs.Passed.{passed}
 use Rattle.turns.specs.Turn.{Request, close}
 use Rattle.turns.specs.Saved.{fits}
 use Rattle.turns.specs.Entries.{Result, refusal, carriedOut, broken11, broken12, broken13, Refusal, refusals, unless, entry}
-use Rattle.turns.proofs.Answered.{kept-11}
+use Rattle.conduct.proofs.Answered.{kept-11}
 use Rattle.answering.specs.declared.Answer.{Answer}
 use Rattle.answering.specs.declared.Answer.the-variants as answers
 use Rattle.answering.specs.declared.Call.{Call}

@@ -16,7 +16,7 @@ use Rattle.rules.specs.Lawful.{Ahead, AllAhead, Inside, Forward}
 use Rattle.turns.specs.Status.{statusOf}
 use Rattle.turns.specs.Process.{Process}
 use Rattle.turns.specs.Turn as turn
-use Rattle.turns.proofs.Fuel.{goes-step}
+use Rattle.conduct.proofs.Fuel.{goes-step}
 use Rattle.memory.specs.Run.{Next, more, flat, cut}
 use Rattle.memory.proofs.Runs.{more-none, more-more}
 use Rattle.leaves.specs.declared.Move.{Move}

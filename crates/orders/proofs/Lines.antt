@@ -9,7 +9,7 @@ use Rattle.policy.specs.Tree.{parallel, sequential, Tree, leaf, trivial, unsati
 use Rattle.turns.specs.State.{State}
 use Rattle.turns.specs.Process.{Item, Process, stop, does, both, trace, items}
 use Rattle.turns.specs.Turn.{Phase, phase}
-use Rattle.turns.proofs.Throughout.{Only, Suits, only-phase}
+use Rattle.conduct.proofs.Throughout.{Only, Suits, only-phase}
 use Rattle.orders.specs.Orders.{Formed, formed-none, formed-one}
 use Rattle.orders.specs.Demand.{noParallel, premise, OneOrder, NoneLost}
 use Rattle.orders.proofs.Moves.{all-formed}

@@ -9,7 +9,7 @@ use lib.ListN.{length, length-append}
 use Rattle.turns.specs.Process.{Item, ran, lets, sups, accepts, suppresses, Trace, none, one, two, items}
 use Rattle.turns.specs.Events.{Event, eventOf, events, stepsRun}
 use Rattle.orders.specs.Orders.{Mixed, nil, fromLeft, fromRight, Formed, formed-none, formed-one, formed-two, Told, told-none, told-one, told-two, only}
-use Rattle.turns.proofs.Count.{events-append}
+use Rattle.conduct.proofs.Count.{events-append}
 
 -- ---- interleavings
 

@@ -9,7 +9,7 @@ use Rattle.rules.proofs.Passed.{passed}
 use Rattle.rules.proofs.LawfulTree.{lawful}
 use Rattle.turns.specs.Turn.{Request, opening}
 use Rattle.turns.specs.Saved.{load, fits}
-use Rattle.turns.proofs.Fits.{fits-load}
+use Rattle.conduct.proofs.Fits.{fits-load}
 use Rattle.turns.proofs.Walk.{call-fine, opening-fine}
 use Rattle.orders.specs.Demand.{premise, AnyOrder}
 use Rattle.orders.proofs.Demand.{any-order}

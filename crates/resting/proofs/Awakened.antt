@@ -21,7 +21,7 @@ use Rattle.rules.specs.Passed.{Passed}
 use Rattle.turns.specs.Status.{running, isRunning}
 use Rattle.turns.specs.State.{State, over, noded}
 use Rattle.turns.specs.Turn.{fresh}
-use Rattle.turns.proofs.Cells.{Below, below-here, below-left, below-right}
+use Rattle.conduct.proofs.Cells.{Below, below-here, below-left, below-right}
 use Rattle.memory.specs.Memory.{Cell, Mem, view, leafed, held}
 use Rattle.memory.specs.Cells.{CellWritten}
 use Rattle.resting.specs.Awaken.{unopened, Unopened, AllUnopened}

@@ -24,8 +24,8 @@ use Rattle.turns.specs.State as states
 use Rattle.turns.specs.State.{State, at, over, leafOver, noded}
 use Rattle.turns.specs.Saved.{cellPlace, zerosAt, load, fitsUnder, zerosUpTo, fits}
 use Rattle.turns.proofs.Rest.{gone, decidedBy, Rest, leaf-waits, leaf-ended, leaf-halted, trivial-ended, unsatisfiable-halted, pair-runs, pair-decided}
-use Rattle.turns.proofs.Cells.{holds-here, holds-left, holds-right}
-use Rattle.turns.proofs.Fits.{fits-load}
+use Rattle.conduct.proofs.Cells.{holds-here, holds-left, holds-right}
+use Rattle.conduct.proofs.Fits.{fits-load}
 use Rattle.memory.specs.Memory.{Mem, view, markAt, leafed, held}
 
 -- ---- dropped, whatever the cells hold

@@ -1,0 +1,12 @@
+pub mod Cells
+pub mod Fits
+pub mod Fuel
+pub mod Count
+pub mod Costs
+pub mod Spread
+pub mod Steps
+pub mod Work
+pub mod Throughout
+pub mod Answered
+pub mod Lasting
+pub mod Bounds

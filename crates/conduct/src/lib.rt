@@ -1,0 +1,1 @@
+// Theorems only: what holds of a whole call. The state that it leaves fits again, and it does no more than so many steps and events.
