@@ -101,10 +101,16 @@ examples =
     ∷ record { file = one (ok 1 ∷ end ∷ []); answer = refused 7 }
     ∷ record { file = one (end ∷ end ∷ []); answer = refused 7 }
     ∷ record { file = one (end ∷ next 2 3 ∷ ok 1 ∷ end ∷ []); answer = passes 2 0 }
+    -- ins and spend keep the mode: an ok after them is pending, and a next is not idle
+    ∷ record { file = one (next 1 4 ∷ ins 0 2 ∷ spend 1 3 3 ∷ ok 0 ∷ end ∷ []); answer = passes 2 1 }
+    ∷ record { file = one (next 1 2 ∷ ins 0 0 ∷ end ∷ []); answer = refused 7 }
     -- 8: of {0, 1} an acase on {1} takes both branches; where {1} alone is possible, it does not
     ∷ record { file = alone (leafOf (0 ∷ 1 ∷ []) 0 (next 1 4 ∷ acase 2 2 3 ∷ ok 0 ∷ sup 0 ∷ end ∷ [])); answer = passes 3 1 }
     ∷ record { file = one (next 1 4 ∷ acase 2 2 3 ∷ ok 0 ∷ sup 0 ∷ end ∷ []); answer = refused 8 }
     ∷ record { file = one (next 1 4 ∷ acase 0 2 3 ∷ ok 0 ∷ sup 0 ∷ end ∷ []); answer = refused 8 }
+    -- ins and spend pass the set on, spend to either target
+    ∷ record { file = alone (leafOf (0 ∷ 1 ∷ []) 0 (next 1 6 ∷ ins 0 2 ∷ spend 1 5 3 ∷ acase 2 4 5 ∷ ok 0 ∷ sup 0 ∷ end ∷ [])); answer = passes 3 3 }
+    ∷ record { file = alone (leafOf (0 ∷ 1 ∷ []) 0 (next 1 5 ∷ spend 1 2 4 ∷ acase 2 3 4 ∷ ok 0 ∷ sup 0 ∷ end ∷ [])); answer = passes 3 3 }
     -- 9: both ways; and not of sequential sides
     ∷ record { file = pair 4 «V» W; answer = refused 9 }
     ∷ record { file = pair 6 W «V»; answer = refused 9 }
