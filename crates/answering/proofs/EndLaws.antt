@@ -10,7 +10,7 @@ use Rattle.policy.specs.Bytes.{Bytes, number, put}
 use Rattle.policy.specs.Records.{mostNodes}
 use Rattle.policy.specs.Tree.{Tree, leaf, trivial, unsatisfiable, node, numberOf, tree}
 use Rattle.policy.proofs.ByteLaws.{put-sets}
-use Rattle.rules.proofs.LawfulTree.{lawful, numbers-below-nodes}
+use Rattle.lawful.proofs.LawfulTree.{lawful, numbers-below-nodes}
 use Rattle.rules.proofs.Numbers.{tree-top, number-at}
 use Rattle.rules.specs.Passed.{Passed}
 use Rattle.rules.proofs.Rows.{counts-fit}

@@ -10,7 +10,7 @@ use Rattle.actions.specs.Sets.{Action}
 use Rattle.policy.specs.Bytes.{Bytes}
 use Rattle.policy.specs.Tree.{Tree, regulated, tree}
 use Rattle.rules.specs.Passed.{Passed}
-use Rattle.rules.proofs.LawfulTree.{lawful, spread-255}
+use Rattle.lawful.proofs.LawfulTree.{lawful, spread-255}
 use Rattle.turns.specs.Status.{isHalted}
 use Rattle.turns.specs.State.{State, status}
 use Rattle.turns.specs.Process.{Item, accepts, Out, Process, stop, does, both, then, outcome, trace, items}

@@ -8,7 +8,7 @@ use Rattle.policy.specs.Bytes.{Bytes, put}
 use Rattle.policy.specs.Tree.{tree}
 use Rattle.policy.proofs.ByteLaws.{put-length, drop-after}
 use Rattle.rules.specs.Spread.{spread}
-use Rattle.rules.proofs.LawfulTree.{lawful, spread-255}
+use Rattle.lawful.proofs.LawfulTree.{lawful, spread-255}
 use Rattle.turns.specs.Status.{Status}
 use Rattle.turns.specs.Process.{items, trace}
 use Rattle.turns.specs.Turn.{Request, call}

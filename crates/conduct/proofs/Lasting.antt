@@ -18,7 +18,7 @@ use Rattle.rules.proofs.Grown.{placeIn, EachLeaf, grown-leaves}
 use Rattle.rules.proofs.Numbers.{same-node}
 use Rattle.rules.specs.Passed.{Passed}
 use Rattle.rules.proofs.Rows.{counts-fit, leaf-steps}
-use Rattle.rules.proofs.LawfulTree.{lawful, numbers-below-nodes}
+use Rattle.lawful.proofs.LawfulTree.{lawful, numbers-below-nodes}
 use Rattle.turns.specs.Status.{Status, dropped, isDecided}
 use Rattle.turns.specs.State.{State, status}
 use Rattle.turns.specs.Process.{outcome}

@@ -15,7 +15,7 @@ use Rattle.policy.specs.Tree.{parallel, sequential, Tree, leaf, trivial, unsati
 use Rattle.rules.specs.Spread.{spread, spreadOf}
 use Rattle.rules.proofs.Grown.{EachLeaf}
 use Rattle.rules.specs.Lawful.{holds, Disjoint, Lawful}
-use Rattle.rules.proofs.LawfulTree.{lawful, numbers-below-nodes, spread-255, leaf-length}
+use Rattle.lawful.proofs.LawfulTree.{lawful, numbers-below-nodes, spread-255, leaf-length}
 use Rattle.rules.specs.Passed.{Passed}
 use Rattle.rules.proofs.Rows.{counts-fit}
 use Rattle.turns.specs.State.{State}

@@ -10,18 +10,18 @@ use Rattle.policy.specs.Bytes.{Bytes}
 use Rattle.policy.specs.Lists.{summed, every}
 use Rattle.policy.specs.Records.{nodeCount, stepCount, nodes}
 use Rattle.policy.specs.Tree.{Way, parallel, sequential, Join, owned, places, Tree, leaf, trivial, unsatisfiable, node, regulated, grown, tree}
 use Rattle.rules.specs.Leaves.{everyLeaf}
 use Rattle.rules.specs.Targets.{targetsFit, broken6}
 use Rattle.rules.specs.Modes.{modesFit, broken7}
 use Rattle.rules.specs.Interference.{effects, interfere, apart, broken9}
 use Rattle.rules.specs.Spread.{spread, narrow, broken10}
 use Rattle.rules.specs.Lawful.{LawfulLeaf, holds, Spared, Lawful}
 use Rattle.rules.proofs.Grown.{nodeIn, placeIn, EachLeaf, grown-leaves}
 use Rattle.rules.proofs.Numbers.{Distinct, distinct, numbers-below}
 use Rattle.rules.specs.Passed.{Passed}
 use Rattle.rules.proofs.InsFits.{insFits}
-use Rattle.rules.proofs.Leaves.{lawful-leaf}
+use Rattle.lawful.proofs.Leaves.{lawful-leaf}
 use Rattle.rules.proofs.Rows.{counts-fit, leaf-at, ins-fit, leaf-steps}
 
 -- ---- over any tree
 

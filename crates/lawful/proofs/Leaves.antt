@@ -15,16 +15,16 @@ use Rattle.actions.proofs.SetLaws.{has-union-left, has-union-right, in-single}
 use Rattle.policy.specs.Lists.{every}
 use Rattle.policy.specs.Steps.{Step, next, ok, sup, ins, acase, spend, end, halt}
 use Rattle.policy.proofs.ListLaws.{every-at}
 use Rattle.rules.specs.Targets.{targetsFit}
 use Rattle.rules.specs.Modes.{Mode, idle, pending, closing, stands, leads, Reached, first, led, modesFit}
 use Rattle.rules.specs.Possible.{CanBe, taken, past-ins, spent, unspent, in-case, off-case, possible, possibleAt}
 use Rattle.rules.specs.Interference.{stepEffects, codeEffects, leafEffects}
 use Rattle.rules.specs.Lawful.{reachedIn, Sub, Follows, LawfulLeaf}
 use Rattle.rules.proofs.InsFits.{insFits}
 use Rattle.rules.proofs.Ahead.{in-or-out, out-of, forward, inside}
-use Rattle.rules.proofs.Modes.{idle-only, pending-only, modes-real, modes-found}
-use Rattle.rules.proofs.Possible.{possible-real, possible-found}
-use Rattle.rules.proofs.Rule7.{OneMode, rule-7}
+use Rattle.lawful.proofs.Modes.{idle-only, pending-only, modes-real, modes-found}
+use Rattle.lawful.proofs.Possible.{possible-real, possible-found}
+use Rattle.lawful.proofs.Rule7.{OneMode, rule-7}
 
 -- the effects of each step are among the leaf's
 effects-from : (ps : List ActionSet) (o : ℕ) (ss : List Step) (j p : ℕ) → j < length ss → o + j ≡ p → Sub (stepEffects (getD ps p EMPTY) (getD ss j halt)) (codeEffects ps o ss)

@@ -12,10 +12,10 @@ use Rattle.actions.proofs.Tests.{and-intro, and-left, and-right, implied, both}
 use Rattle.policy.specs.Lists.{one, everyAt}
 use Rattle.policy.specs.Steps.{Step, halt}
 use Rattle.policy.proofs.ListLaws.{everyAt-from-0}
 use Rattle.rules.specs.Targets.{targetsFit}
 use Rattle.rules.specs.Modes.{Mode, idle, pending, closing, isIdle, isPending, isClosing, sameMode, stands, Reached, marks, modeFits, modesFit}
 use Rattle.rules.specs.Lawful.{reachedIn}
-use Rattle.rules.proofs.Modes.{same-itself, same-mode, modes-real, modes-found}
+use Rattle.lawful.proofs.Modes.{same-itself, same-mode, modes-real, modes-found}
 
 -- "Refused: a step reached in two modes or in one where its kind may not stand, .. a step never reached.": not so, of the step at o
 pub record OneMode (code : List Step) (o : ℕ) : Type 0 where

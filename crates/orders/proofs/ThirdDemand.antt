@@ -6,7 +6,7 @@ use Rattle.policy.specs.Bytes.{Bytes}
 use Rattle.policy.specs.Tree.{tree}
 use Rattle.rules.specs.Check.{check, passes}
 use Rattle.rules.proofs.Passed.{passed}
-use Rattle.rules.proofs.LawfulTree.{lawful}
+use Rattle.lawful.proofs.LawfulTree.{lawful}
 use Rattle.turns.specs.Turn.{Request, opening}
 use Rattle.turns.specs.Saved.{load, fits}
 use Rattle.conduct.proofs.Fits.{fits-load}

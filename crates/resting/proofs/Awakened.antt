@@ -15,7 +15,7 @@ use Rattle.policy.specs.Steps.{Step}
 use Rattle.policy.specs.Tree.{places, Tree, leaf, trivial, unsatisfiable, node, tree}
 use Rattle.rules.proofs.Grown.{EachLeaf, grown-leaves}
 use Rattle.rules.specs.Lawful.{holds}
-use Rattle.rules.proofs.LawfulTree.{numbers-below-nodes}
+use Rattle.lawful.proofs.LawfulTree.{numbers-below-nodes}
 use Rattle.rules.proofs.Numbers.{node-in}
 use Rattle.rules.specs.Passed.{Passed}
 use Rattle.turns.specs.Status.{running, isRunning}

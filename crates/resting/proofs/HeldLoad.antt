@@ -17,7 +17,7 @@ use Rattle.policy.specs.Records.{nodeCount}
 use Rattle.policy.specs.Steps.{Step}
 use Rattle.policy.specs.Tree.{Way, Join, and, or, Tree, leaf, trivial, unsatisfiable, node, tree}
 use Rattle.rules.specs.Lawful.{holds}
-use Rattle.rules.proofs.LawfulTree.{numbers-below-nodes}
+use Rattle.lawful.proofs.LawfulTree.{numbers-below-nodes}
 use Rattle.rules.specs.Passed.{Passed}
 use Rattle.turns.specs.Status.{Status, running, ended, endedLeft, endedRight, halted, dropped, isRunning}
 use Rattle.turns.specs.State as states

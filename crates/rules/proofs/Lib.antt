@@ -1,12 +1,7 @@
 pub mod Ahead
-pub mod Modes
-pub mod Possible
-pub mod Rule7
 pub mod InsFits
-pub mod Leaves
 pub mod Grown
 pub mod Numbers
 pub mod Passed
 pub mod Rows
-pub mod LawfulTree
 pub mod Examples

@@ -63,7 +63,7 @@ leads (spend n y z) m = record { mode = m; offset = y } ∷ record { mode = m; o
 leads end m = []
 leads halt m = []
 
--- What the paper says, as it says it: an offset is reached in a mode by a chain of steps. `proofs/Modes` shows that the walk below
+-- What the paper says, as it says it: an offset is reached in a mode by a chain of steps. `lawful/proofs/Modes` shows that the walk below
 -- finds just these.
 pub data Reached (code : List Step) : Mode → ℕ → Type 0 where
   -- "Offset 0 is reached idle;"

@@ -12,7 +12,7 @@ use Rattle.policy.specs.Steps.{Step, next, ok, sup, ins, acase, spend, end, hal
 use Rattle.policy.specs.Tree.{places}
 use Rattle.rules.specs.Leaves.{everyLeaf}
 
--- What the paper says, as it says it: an action is possible at an offset by a chain of steps from a take target. `proofs/Possible`
+-- What the paper says, as it says it: an action is possible at an offset by a chain of steps from a take target. `lawful/proofs/Possible`
 -- shows that the walk below finds just these.
 pub data CanBe (r : ActionSet) (code : List Step) : ℕ → Action → Type 0 where
   -- "At a take target: the leaf's set."

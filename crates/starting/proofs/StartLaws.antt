@@ -14,7 +14,7 @@ use Rattle.policy.specs.Steps.{Step}
 use Rattle.policy.specs.Tree.{Way, parallel, sequential, aLeaf, firstStep, Tree, leaf, trivial, unsatisfiable, node, numberOf, regulated}
 use Rattle.rules.specs.Lawful.{LawfulLeaf}
 use Rattle.rules.proofs.Grown.{EachLeaf}
-use Rattle.rules.proofs.LawfulTree.{lawful-leaves}
+use Rattle.lawful.proofs.LawfulTree.{lawful-leaves}
 use Rattle.policy.specs.Tree.{treeAt}
 use Rattle.turns.specs.Status.{Status, ended, halted, statusOf, isRunning}
 use Rattle.turns.specs.State.{State, leafOver}

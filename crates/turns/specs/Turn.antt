@@ -49,7 +49,7 @@ stepping i a go o c end = does (ran i o) (quiet (leafOver ended))
 stepping i a go o c halt = does (ran i o) (quiet (leafOver halted))
 
 -- The leaf goes on from an offset, up to ok, sup, end, halt or a next. The fuel is one more than the leaf's steps: on a leaf that
--- rule 6 lets pass it does not run out (`proofs/Fuel`).
+-- rule 6 lets pass it does not run out (`conduct/proofs/Fuel`).
 unfoldable pub goes : ℕ → List Step → Action → ℕ → ℕ → ℕ → Process
 unfolding quiet
 goes i code a zero o c = quiet (leafOver halted)

@@ -1,0 +1,1 @@
+// Theorems only: the passes of the check find what the paper says of a leaf, and a file that passes holds a lawful tree.
