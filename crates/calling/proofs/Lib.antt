@@ -1,5 +1,3 @@
-mod EventLaws
-mod DriveBounds
 pub mod CallLaws
 mod Apart
 mod Made

@@ -1,33 +1,26 @@
 // A call that no rule refuses, carried out: the phases of the root, the verdict between them, the state tidied at the end.
 ghost use mathlib.Core.Path.{_≡_};
-ghost use mathlib.Core.Bool.{true};
 ghost use Prim.Native.Nat.{_≤_};
 ghost use lib.ListN.{length};
-ghost use Rattle.policy.specs.Tree.{regulated, tree};
+ghost use Rattle.policy.specs.Tree.{tree};
 ghost use Rattle.rules.specs.Passed.{Passed};
 ghost use Rattle.turns.specs.Turn as spec;
-ghost use Rattle.turns.specs.Turn.{before, opening, isAsked, call};
+ghost use Rattle.turns.specs.Turn.{opening};
 ghost use Rattle.turns.specs.Entries.{carried, carriedOut};
 ghost use Rattle.memory.specs.Memory.{phaseOf, view, held};
-ghost use Rattle.starting.specs.Ready.{Ready};
 ghost use Rattle.calling.specs.Calls.{Counted, Allowed};
-ghost use Rattle.calling.specs.Parts.{Played};
 ghost use Rattle.answering.specs.declared.Call.the-variants.{Open, Offer, Close};
 ghost use Rattle.answering.specs.Requests.{asked};
 ghost use Rattle.answering.specs.Replies.{Gave};
 use answering::Answer;
 use answering::Call;
 use answering::finish;
-use answering::judge;
-use answering::say;
 use driving::drive;
+use playing::play;
 use resting::awaken::awaken;
-use starting::asks;
 use tables::prepare;
 use views::PolicyView;
 use views::view_of;
-
-const BEFORE: u8 = 0;
 
 const AFTER: u8 = 1;
 
@@ -133,54 +126,4 @@ fn carry_offer(
     prepare(policy, nodes, steps, &mut sets, &mut firsts);
     let count = play(policy, &sets, &firsts, state, &mut work, events, action);
     finish(policy, state, count)
-}
-
-// The root's answer to an action: the number of its events.
-fn play(
-    policy: &[u8],
-    sets: &[u64; 31],
-    firsts: &[u16; 31],
-    state: &mut [u8],
-    work: &mut [u8],
-    events: &mut [u8],
-    action: u8,
-) -> usize
-    requires { ⌜ Ready (now policy) (now sets) (now firsts) (now state) (now work) 0 × (512 ≤ length (now events)) ⌝ }
-    ensures { λ r. ⌜ Played (tree (now (policy .entry))) (call (tree (now (policy .entry))) (spec.offer action) (held (tree (now (policy .entry))) (view (now (state .entry)) (now (work .entry))))) (view (now (state .exit)) (now (work .exit))) (now (events .entry)) (now (events .exit)) r ⌝ }
-{
-    if asks(sets, state, work, 0, action) {
-        return turn(policy, sets, firsts, state, work, events, action);
-    }
-    say(events, 0, false, action);
-    1
-}
-
-// The root's turn on an action that it is asked about.
-fn turn(
-    policy: &[u8],
-    sets: &[u64; 31],
-    firsts: &[u16; 31],
-    state: &mut [u8],
-    work: &mut [u8],
-    events: &mut [u8],
-    action: u8,
-) -> usize
-    requires { ⌜ Ready (now policy) (now sets) (now firsts) (now state) (now work) 0 × (512 ≤ length (now events)) ⌝ }
-    requires { ⌜ isAsked (regulated (tree (now policy))) (before action) (held (tree (now policy)) (view (now state) (now work))) ≡ true ⌝ }
-    ensures { λ r. ⌜ Played (tree (now (policy .entry))) (call (tree (now (policy .entry))) (spec.offer action) (held (tree (now (policy .entry))) (view (now (state .entry)) (now (work .entry))))) (view (now (state .exit)) (now (work .exit))) (now (events .entry)) (now (events .exit)) r ⌝ }
-{
-    let first = drive(policy, sets, firsts, state, work, events, 0, BEFORE, action);
-    let count = judge(state, events, first.events, first.suppressed, action);
-    let second = drive(
-        policy,
-        sets,
-        firsts,
-        state,
-        work,
-        events,
-        2 * count,
-        AFTER,
-        0,
-    );
-    count + second.events
 }

@@ -1,6 +1,7 @@
 -- `one_phase` meets its contract: the root driven through the phase, and the end of the call. Assumes nothing.
 use borrow.Author.Needs.{needs}
-use Rattle.calling.proofs.CallLaws.{tables-fit, ready, phase-fits, phase-played, gave}
+use Rattle.playing.proofs.PlayLaws.{phase-fits, phase-played}
+use Rattle.calling.proofs.CallLaws.{tables-fit, ready, gave}
 use Rattle.calling.proofs.one_phase.Statement.{statement}
 use Rattle.calling.proofs.one_phase.Tie as tie
 

@@ -1,9 +1,9 @@
 -- `play` meets its contract: the root's turn where it is asked, else the verdict alone. Assumes nothing.
 use mathlib.Core.Path.{sym, _∙_}
 use borrow.Author.Needs.{needs}
-use Rattle.calling.proofs.CallLaws.{root-asked, unasked-played}
-use Rattle.calling.proofs.play.Statement.{statement}
-use Rattle.calling.proofs.play.Tie as tie
+use Rattle.playing.proofs.PlayLaws.{root-asked, unasked-played}
+use Rattle.playing.proofs.play.Statement.{statement}
+use Rattle.playing.proofs.play.Tie as tie
 
 turn-requires : tie.Need-turn-requires
 turn-requires c κs =

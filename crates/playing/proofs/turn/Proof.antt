@@ -3,10 +3,10 @@ use native.Mathlib.Omega.{arith}
 use mathlib.Core.Path.{refl, _∙_}
 use Rattle.memory.specs.Memory.{phaseOf, view}
 use Rattle.turning.proofs.TurnCalls.{still}
-use Rattle.calling.proofs.DriveBounds.{steps-fit}
-use Rattle.calling.proofs.CallLaws.{phase-fits, verdict-room, count-fits, after-room, sum-fits, turn-played}
-use Rattle.calling.proofs.turn.Statement.{statement}
-use Rattle.calling.proofs.turn.Tie as tie
+use Rattle.playing.proofs.DriveBounds.{steps-fit}
+use Rattle.playing.proofs.PlayLaws.{phase-fits, verdict-room, count-fits, after-room, sum-fits, turn-played}
+use Rattle.playing.proofs.turn.Statement.{statement}
+use Rattle.playing.proofs.turn.Tie as tie
 
 drive-requires : tie.Need-drive-requires
 drive-requires c κs = let st = c .before .before .before .before .before .before .before in let h = st .pre .0 in (h .0, phase-fits (h .0 .passed) _ _ (st .args .events .now) (h .1))

@@ -1,0 +1,3 @@
+mod EventLaws
+pub mod DriveBounds
+pub mod PlayLaws
