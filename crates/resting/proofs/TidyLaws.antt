@@ -1,14 +1,16 @@
 -- The cells of a call's end: each node's own, and the whole of a tree laid over zeros. Assumes nothing.
 use Prim.Native.Nat.{ℕ, zero, suc, _+_, _*_, _/_, _%_, _≤_, _<_}
 use native.Mathlib.Omega.{arith}
-use native.Mathlib.Nat.{not-suc-le-zero, eq-or-lt-of-le, div-one}
-use mathlib.Core.Path.{_≡_, refl, sym, ap, ap₂, _∙_, subst}
-use mathlib.Core.Logic.{⊎-elim}
+use native.Mathlib.Nat.{div-one}
+use mathlib.Core.Path.{_≡_, refl, sym, ap, ap₂, _∙_}
 use mathlib.Core.Bool.{Bool, true, false, not}
-use mathlib.Core.List.{[], _∷_}
+use mathlib.Core.List.{[], _∷_, _++_, append-nil}
 use lib.Dec.{eqb}
-use lib.ListN.{length, getD, set, replicate}
-use lib.Seq.{sets, getD-set-same, getD-set-other}
+use lib.ListN as list
+use lib.ListN.{length, set, take, replicate}
+use lib.Seq.{sets, take-length, drop-length}
+use types.Run.{OneOf, miss}
+use denote.Enum.Declared.{tagOf}
 use borrow.Author.Tests.{eq-eqb, ne-eqb}
 use Rattle.policy.specs.Bytes.{Bytes, spell, put}
 use Rattle.policy.proofs.ByteLaws.{put-sets}
@@ -22,6 +24,7 @@ use Rattle.rules.proofs.Numbers.{tree-top}
 use Rattle.policy.specs.Tree.{treeAt}
 use Rattle.rules.specs.Passed.{Passed}
 use Rattle.reading.specs.Kinds.{wayOf, joinOf, kindOf}
+use Rattle.reading.proofs.Kind.{the-type}
 use Rattle.reading.specs.declared.Kind.{Kind}
 use Rattle.reading.specs.declared.Kind.the-variants as kinds
 use Rattle.reading.specs.declared.Way as ways
@@ -187,20 +190,18 @@ module _ {file : Bytes} (ok : Passed file) (i : ℕ) (h : i < nodeCount file) {p
       w ∙ ap (λ (n : ℕ). put out (cellPlace i) (n ∷ 0 ∷ 0 ∷ 0 ∷ spell 4 0)) is
       ∙ ap (λ (c : Bytes). put out (cellPlace i) c) (sym (bare-cell g (statusOf (statusAt bs i)) (eqb (markAt bs i) 1)))
 
-  pub lay-trivial : k ≡ kinds.Trivial → out′ ≡ put out (cellPlace i) (s ∷ 0 ∷ 0 ∷ 0 ∷ spell 4 0) → (ws : Bytes)
+  -- a node that is neither a leaf nor a pair
+  pub lay-other : OneOf (1 ∷ 2 ∷ 4 ∷ []) (tagOf the-type k) → out′ ≡ put out (cellPlace i) (s ∷ 0 ∷ 0 ∷ 0 ∷ spell 4 0) → (ws : Bytes)
       → out′ ≡ store (treeAt file i) (droppedIf g (held (treeAt file i) (view bs ws))) out
   unfolding kindOf shaped store held view
-  lay-trivial e w ws = bare-put w ∙ sym (ap (λ (t : Tree). laid t g bs ws out) (tree-read ok i h place k read e))
-
-  pub lay-unsatisfiable : k ≡ kinds.Unsatisfiable → out′ ≡ put out (cellPlace i) (s ∷ 0 ∷ 0 ∷ 0 ∷ spell 4 0) → (ws : Bytes)
-      → out′ ≡ store (treeAt file i) (droppedIf g (held (treeAt file i) (view bs ws))) out
-  unfolding kindOf shaped store held view
-  lay-unsatisfiable e w ws = bare-put w ∙ sym (ap (λ (t : Tree). laid t g bs ws out) (tree-read ok i h place k read e))
-
-  pub lay-unknown : k ≡ kinds.Unknown → out′ ≡ put out (cellPlace i) (s ∷ 0 ∷ 0 ∷ 0 ∷ spell 4 0) → (ws : Bytes)
-      → out′ ≡ store (treeAt file i) (droppedIf g (held (treeAt file i) (view bs ws))) out
-  unfolding kindOf shaped store held view
-  lay-unknown e w ws = bare-put w ∙ sym (ap (λ (t : Tree). laid t g bs ws out) (tree-read ok i h place k read e))
+  lay-other o w ws = go k refl o
+    where
+      go : (q : Kind) → k ≡ q → OneOf (1 ∷ 2 ∷ 4 ∷ []) (tagOf the-type q) → out′ ≡ store (treeAt file i) (droppedIf g (held (treeAt file i) (view bs ws))) out
+      go kinds.Leaf e o = absurd (miss (1 ∷ 2 ∷ 4 ∷ []) 0 tt o)
+      go kinds.Trivial e o = bare-put w ∙ sym (ap (λ (t : Tree). laid t g bs ws out) (tree-read ok i h place k read e))
+      go kinds.Unsatisfiable e o = bare-put w ∙ sym (ap (λ (t : Tree). laid t g bs ws out) (tree-read ok i h place k read e))
+      go (kinds.Pair _ _) e o = absurd (miss (1 ∷ 2 ∷ 4 ∷ []) 3 tt o)
+      go kinds.Unknown e o = bare-put w ∙ sym (ap (λ (t : Tree). laid t g bs ws out) (tree-read ok i h place k read e))
 
   -- the pair's own cell, its left side's, its right side's
   pub lay-pair : {w : ways.Way} {j : joins.Join} → k ≡ kinds.Pair w j → {l r : ℕ} → l ≡ nodeAt file p .left → r ≡ nodeAt file p .right → {out₁ out₂ : Bytes}
@@ -223,17 +224,11 @@ module _ {file : Bytes} (ok : Passed file) (i : ℕ) (h : i < nodeCount file) {p
       ∙ ap (λ (z : State). store (node (wayOf w) (joinOf j) i (treeAt file (nodeAt file p .left)) (treeAt file (nodeAt file p .right))) z out) (sym (pair-is g q (eqb (markAt bs i) 1) x y))
       ∙ sym (ap (λ (t : Tree). laid t g bs ws out) (tree-read ok i h place k read e))
 
--- ---- bytes copied one by one
+-- ---- bytes copied over as many others
 
-pub copied-none : (to from : Bytes) (k : ℕ) → k < 0 → getD to k 0 ≡ getD from k 0
-copied-none to from k h = absurd (not-suc-le-zero h)
-
-pub copied-more : (to from : Bytes) (i : ℕ) → i < length to → ((k : ℕ) → k < i → getD to k 0 ≡ getD from k 0)
-    → (k : ℕ) → k < i + 1 → getD (set to i (getD from i 0)) k 0 ≡ getD from k 0
-copied-more to from i l h k b = ⊎-elim
-    (λ (e : k ≡ i). subst (λ (x : ℕ). getD (set to i (getD from i 0)) x 0 ≡ getD from x 0) (sym e) (getD-set-same to i (getD from i 0) 0 l))
-    (λ (e : k < i). getD-set-other to i k (getD from i 0) 0 (λ z. omega arith) ∙ h k e)
-    (eq-or-lt-of-le (let g : k ≤ i = omega arith in g))
+pub copied-whole : (from to : Bytes) → length from ≡ length to → {to′ : Bytes} → to′ ≡ take (length from) from ++ list.drop (length from) to → to′ ≡ from
+copied-whole from to h e =
+    e ∙ ap₂ (λ (a b : Bytes). a ++ b) (take-length from) (ap (λ (n : ℕ). list.drop n to) h ∙ drop-length to) ∙ append-nil from
 
 -- ---- the whole state
 

@@ -89,20 +89,7 @@ fn lay(policy: &[u8], node: usize, gone: bool, state: &[u8], out: &mut [u8])
             lay(policy, left, under, state, out);
             lay(policy, right, under, state, out);
         }
-        Kind::Trivial => write(out, node, status, 0, 0),
-        Kind::Unsatisfiable => write(out, node, status, 0, 0),
-        Kind::Unknown => write(out, node, status, 0, 0),
-    }
-}
-
-fn copy(from: &[u8], to: &mut [u8])
-    requires { ⌜ length (now from) ≡ length (now to) ⌝ }
-    ensures { λ _. ⌜ now (to .exit) ≡ now (from .entry) ⌝ }
-{
-    let mut i = 0;
-    while i < from.len() {
-        to[i] = from[i];
-        i += 1;
+        _ => write(out, node, status, 0, 0),
     }
 }
 
@@ -112,5 +99,5 @@ pub fn tidy(policy: &[u8], state: &mut [u8])
 {
     let mut out = [0u8; 248];
     lay(policy, 0, false, state, &mut out);
-    copy(&out, state);
+    bytes::copy(&out, state);
 }

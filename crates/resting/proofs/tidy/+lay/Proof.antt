@@ -4,7 +4,7 @@ use Prim.Native.Nat.{_-_}
 use borrow.Author.Needs.{needs}
 use Rattle.policy.specs.Records.{nodeCount}
 use Rattle.tables.proofs.FileNodes.{room, node-room, kids}
-use Rattle.resting.proofs.TidyLaws.{lay-leaf, lay-trivial, lay-unsatisfiable, lay-unknown, lay-pair}
+use Rattle.resting.proofs.TidyLaws.{lay-leaf, lay-pair, lay-other}
 use Prim.Native.Nat.{ℕ, _<_}
 use borrow.Fn.Kinds.{In}
 use borrow.Fn.PlainCycle.{Measures, is, falls, and}
@@ -101,13 +101,7 @@ lay-lay-requires-2 t c κs =
     )
 
 lay-write-requires-2 : (t : ℕ) → lay-lts.Need-write-requires-2 (lay-calls t) (lay-at t) lay.Post
-lay-write-requires-2 t c κs = let p = c .before .before .before .before .before .before .before .before .before .pre .1 in let r = room (p .0 .0) in (search needs, omega (arith, p .0 .1))
-
-lay-write-requires-3 : (t : ℕ) → lay-lts.Need-write-requires-3 (lay-calls t) (lay-at t) lay.Post
-lay-write-requires-3 t c κs = let p = c .before .before .before .before .before .before .before .before .before .pre .1 in let r = room (p .0 .0) in (search needs, omega (arith, p .0 .1))
-
-lay-write-requires-4 : (t : ℕ) → lay-lts.Need-write-requires-4 (lay-calls t) (lay-at t) lay.Post
-lay-write-requires-4 t c κs = let p = c .before .before .before .before .before .before .before .before .before .pre .1 in let r = room (p .0 .0) in (search needs, omega (arith, p .0 .1))
+lay-write-requires-2 t c κs = let p = c .before .before .before .before .before .before .before .before .pre .1 in let r = room (p .0 .0) in (search needs, omega (arith, p .0 .1))
 
 lay-returns : (t : ℕ) → lay-lts.Need-returns (lay-calls t) (lay-at t) lay.Post
 lay-returns t c =
@@ -132,29 +126,14 @@ lay-returns-2 t c =
 
 lay-returns-3 : (t : ℕ) → lay-lts.Need-returns-3 (lay-calls t) (lay-at t) lay.Post
 lay-returns-3 t c =
-    let p = c .before .before .before .before .before .before .before .before .before .before .before .before .pre .1 in lay-trivial (p .0 .0) _ (p .0 .1)
-    (c .before .before .before .before .before .before .before .before .node-place .ensures) _
-    (c .before .before .before .before .before .before .before .node-kind .ensures) _ _ (c .before .before .before .before .before .before .standing .ensures) _
-    (c .before .before .before .before .enum-told3 .given .1) (c .before .before .write2 .ensures)
-
-lay-returns-4 : (t : ℕ) → lay-lts.Need-returns-4 (lay-calls t) (lay-at t) lay.Post
-lay-returns-4 t c =
-    let p = c .before .before .before .before .before .before .before .before .before .before .before .before .pre .1 in lay-unsatisfiable (p .0 .0) _ (p .0 .1)
-    (c .before .before .before .before .before .before .before .before .node-place .ensures) _
-    (c .before .before .before .before .before .before .before .node-kind .ensures) _ _ (c .before .before .before .before .before .before .standing .ensures) _
-    (c .before .before .before .before .enum-told4 .given .1) (c .before .before .write3 .ensures)
-
-lay-returns-5 : (t : ℕ) → lay-lts.Need-returns-5 (lay-calls t) (lay-at t) lay.Post
-lay-returns-5 t c =
-    let p = c .before .before .before .before .before .before .before .before .before .before .before .before .pre .1 in lay-unknown (p .0 .0) _ (p .0 .1)
-    (c .before .before .before .before .before .before .before .before .node-place .ensures) _
-    (c .before .before .before .before .before .before .before .node-kind .ensures) _ _ (c .before .before .before .before .before .before .standing .ensures) _
-    (c .before .before .before .before .enum-told5 .given .1) (c .before .before .write4 .ensures)
+    let p = c .before .before .before .before .before .before .before .before .before .before .before .pre .1 in lay-other (p .0 .0) _ (p .0 .1)
+    (c .before .before .before .before .before .before .before .node-place .ensures) _
+    (c .before .before .before .before .before .before .node-kind .ensures) _ _ (c .before .before .before .before .before .standing .ensures) _
+    (c .before .before .before .before .match .keys3) (c .before .before .write2 .ensures)
 
 pub +lay-spec : {M : Type 1} → statement M
 +lay-spec = close μ-lay
     (λ t. lay-lts.spec (lay-calls t) (lay-at t) lay.Post (lay-node-place-requires t) (lay-node-kind-requires t) (lay-standing-requires t) (λ c. search needs)
     (lay-write-leaf-requires t) (λ c. search needs) (lay-write-requires t) (lay-node-left-requires t) (λ c. search needs) (lay-node-right-requires t)
-    (λ c. search needs) (lay-lay-requires t) (lay-lay-requires-2 t) (λ c. search needs) (lay-write-requires-2 t) (λ c. search needs) (lay-write-requires-3 t)
-    (λ c. search needs) (lay-write-requires-4 t) (λ c. search needs) (lay-returns t) (λ c. search needs) (lay-returns-2 t) (λ c. search needs) (lay-returns-3 t)
-    (λ c. search needs) (lay-returns-4 t) (λ c. search needs) (lay-returns-5 t))
+    (λ c. search needs) (lay-lay-requires t) (lay-lay-requires-2 t) (lay-write-requires-2 t)
+    (λ c. search needs) (lay-returns t) (λ c. search needs) (lay-returns-2 t) (λ c. search needs) (lay-returns-3 t))

@@ -1,5 +1,6 @@
 -- `write` meets its contract: eight bytes, one after another. Assumes nothing.
 use native.Mathlib.Omega.{arith}
+use mathlib.Core.Path.{refl}
 use lib.ListN.{length-set}
 use Rattle.resting.proofs.TidyLaws.{cell-put}
 use borrow.Author.Needs.{needs}
@@ -34,25 +35,25 @@ pub write-spec : {M : Type 1} → statement M
 write-spec =
     tie.close
     (tie.spec
-    (λ c. search needs)
-    (λ c. search needs)
-    (λ c. search needs)
+    (λ c. omega arith)
+    (λ c. omega arith)
+    (λ c. omega arith)
     slice-write-out-2
-    (λ c. search needs)
+    (λ c. omega arith)
     slice-write-out-3
-    (λ c. search needs)
+    (λ c. omega arith)
     slice-write-out-4
-    (λ c. search needs)
-    (λ c. search needs)
+    (λ c. omega arith)
+    (λ c. omega arith)
     slice-write-out-5
-    (λ c. search needs)
-    (λ c. search needs)
+    (λ c. omega arith)
+    (λ c. omega arith)
     slice-write-out-6
-    (λ c. search needs)
-    (λ c. search needs)
+    (λ c. omega arith)
+    (λ c. omega arith)
     slice-write-out-7
-    (λ c. search needs)
-    (λ c. search needs)
+    (λ c. omega arith)
+    (λ c. omega arith)
     slice-write-out-8
-    (λ c. search needs)
+    (λ c. simp length-set refl)
     returns)
