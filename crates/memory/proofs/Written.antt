@@ -2,6 +2,7 @@
 use Prim.Native.Nat.{ℕ}
 use mathlib.Core.Path.{_≡_, refl, sym, ap, ap₂, _∙_, subst}
 use mathlib.Core.Bool.{Bool, true, false, _&&_, _||_, not}
+use mathlib.Core.Logic.{_⊎_, inl, inr}
 use lib.Dec.{eqb}
 use mir.Val.{boolByte}
 use Rattle.actions.proofs.Tests.{true-not-false}
@@ -13,7 +14,9 @@ use Rattle.memory.specs.declared.cells.Cell as code
 use Rattle.memory.specs.Memory.{Cell, Mem, phaseOf, view}
 use Rattle.memory.specs.Cells as cells
 use Rattle.memory.specs.Cells.{celled}
-use Rattle.memory.specs.Promises.{afresh, Handed, Settled, Told, joinedIn}
+use Rattle.memory.specs.Promises.{afresh, Handed, Settled, Told, joinedIn, Finishes, Finished}
+use Rattle.memory.specs.declared.outcomes.Fed.{Fed}
+use Rattle.memory.specs.declared.outcomes.Fed.the-variants.{Back, Over}
 
 -- ---- a side told to begin, then the node's own cell
 
@@ -108,16 +111,22 @@ pub wrote-status : (x : code.Cell) (n : ℕ) {bs ws bs′ ws′ : Bytes} → cel
 unfolding celled
 wrote-status x n w = sym (ap (λ (z : Cell). z .status) (w .here))
 
-pub wrote-stage : (x : code.Cell) (n : ℕ) {bs ws bs′ ws′ : Bytes} → cells.CellWritten n (celled x (view bs ws n .offset) (view bs ws n .counter)) bs ws bs′ ws′
-    → view bs′ ws′ n .stage ≡ x .stage
-unfolding celled
-wrote-stage x n w = ap (λ (z : Cell). z .stage) (w .here)
+-- the right side's turn on an insert has ended: the node's cell x was written, with the status that it then has
+module _ (j : Join) (x : code.Cell) (n b : ℕ) {bs ws bs′ ws′ : Bytes} (r : Fed)
+    (es : statusOf (x .status) ≡ joined j running (view bs ws b .status)) (et : x .stage ≡ 1) (ep : phaseOf (x .phase) (x .action) ≡ view bs ws n .ph)
+    (w : cells.CellWritten n (celled x (view bs ws n .offset) (view bs ws n .counter)) bs ws bs′ ws′) where
+  finishes-by : ((isRunning (statusOf (x .status)) ≡ true) × (r ≡ Back)) ⊎ ((isRunning (statusOf (x .status)) ≡ false) × (r ≡ Over false))
+      → Finishes j n b (view bs ws) (view bs′ ws′) r
+  unfolding celled
+  finishes-by (inl (e, q)) =
+      subst (λ (z : Fed). Finishes j n b (view bs ws) (view bs′ ws′) z) (sym q)
+      (ap isRunning (sym es) ∙ e, (ap (λ (z : Cell). z .stage) (w .here) ∙ et, ap (λ (z : Cell). z .ph) (w .here) ∙ ep))
+  finishes-by (inr (e, q)) =
+      subst (λ (z : Fed). Finishes j n b (view bs ws) (view bs′ ws′) z) (sym q) (ap isRunning (sym es) ∙ e, (ap (λ (z : Cell). z .status) (w .here) ∙ es, refl))
 
-pub wrote-phase : (x y : code.Cell) (n : ℕ) {bs ws bs′ ws′ : Bytes} → Reads y n (view bs ws)
-    → cells.CellWritten n (celled x (view bs ws n .offset) (view bs ws n .counter)) bs ws bs′ ws′ → x .phase ≡ y .phase → x .action ≡ y .action
-    → view bs′ ws′ n .ph ≡ view bs ws n .ph
-unfolding celled
-wrote-phase x y n {bs} {ws} e w ep ea = ap (λ (z : Cell). z .ph) (w .here) ∙ ap₂ phaseOf ep ea ∙ read-phase y n (view bs ws) e
+  pub finished-by : ((isRunning (statusOf (x .status)) ≡ true) × (r ≡ Back)) ⊎ ((isRunning (statusOf (x .status)) ≡ false) × (r ≡ Over false))
+      → Finished j n b (view bs ws) (view bs′ ws′) r
+  finished-by f = record { finishes = finishes-by f; others = w .others }
 
 -- the status that two sides give, read from their cells
 pub joined-read : {j j′ : Join} (x y : code.Cell) {a a′ b b′ : ℕ} (m : Mem) → j ≡ j′ → a ≡ a′ → b ≡ b′ → Reads x a m → Reads y b m

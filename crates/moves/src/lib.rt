@@ -1,11 +1,14 @@
 // What a node does at the end of a side's phase: it reads its status, sets its stage, and tells a side to begin.
 ghost use mathlib.Core.Path.{_≡_};
+ghost use mathlib.Core.Bool.{true, false};
+ghost use mathlib.Core.Logic.{_⊎_};
 ghost use Prim.Native.Nat.{_<_};
 ghost use lib.ListN.{length};
-ghost use Rattle.turns.specs.Status.{statusOf};
+ghost use Rattle.turns.specs.Status.{statusOf, running, isRunning, joined};
 ghost use Rattle.turns.specs.Turn.{stillAsked};
 ghost use Rattle.memory.specs.Memory.{phaseOf, view};
 ghost use Rattle.memory.specs.Cells.{celled};
+ghost use Rattle.memory.specs.declared.outcomes.Fed.the-variants.{Back, Over};
 ghost use Rattle.memory.specs.Promises.{Handed, Settled, joinedIn, Second, Concluded, GivenOn, Parts, Owned, PassedOn, Finished, Firsts};
 ghost use Rattle.sides.specs.Sides.{leftAt, rightAt, joinAt, Sided};
 use memory::cells::Cell;
@@ -226,46 +229,44 @@ pub fn pass(policy: &[u8], state: &mut [u8], work: &mut [u8], node: usize, u: bo
     emits(join_of(policy, node), other.status, u)
 }
 
+// The node's cell once its right side has taken an insert: the status that it has while its left side waits and counts as running, and
+// the stage at which the left side goes on, which is not read of a node that is decided.
+fn waiting_cell(policy: &[u8], state: &[u8], work: &[u8], node: usize) -> Cell
+    requires { ⌜ Sided (now policy) (now state) (now work) node ⌝ }
+    ensures { λ r. ⌜ (statusOf (r .status) ≡ joined (joinAt (now (policy .entry)) node) running (view (now (state .entry)) (now (work .entry)) (rightAt (now (policy .entry)) node) .status)) × ((r .stage ≡ 1) × (phaseOf (r .phase) (r .action) ≡ view (now (state .entry)) (now (work .entry)) node .ph)) ⌝ }
+{
+    let cell = get(state, work, node);
+    let other = get(state, work, right_of(policy, node));
+    let status = join(join_of(policy, node), RUNNING, other.status);
+    Cell {
+        stage: 1,
+        phase: cell.phase,
+        action: cell.action,
+        fed: cell.fed,
+        sup: cell.sup,
+        status,
+        mark: cell.mark,
+    }
+}
+
+// Whether the left side goes on, by that status.
+fn back_or_over(status: u8) -> Fed
+    ensures { λ r. ⌜ ((isRunning (statusOf status) ≡ true) × (r ≡ Back)) ⊎ ((isRunning (statusOf status) ≡ false) × (r ≡ Over false)) ⌝ }
+{
+    if is_running(status) {
+        return Fed::Back;
+    }
+    Fed::Over(false)
+}
+
 // The same, its phase after the verdict at its end: the left side goes on, unless the node is decided.
 pub fn finish(policy: &[u8], state: &mut [u8], work: &mut [u8], node: usize) -> Fed
     requires { ⌜ Sided (now policy) (now state) (now work) node ⌝ }
     ensures { λ r. ⌜ Finished (joinAt (now (policy .entry)) node) node (rightAt (now (policy .entry)) node) (view (now (state .entry)) (now (work .entry))) (view (now (state .exit)) (now (work .exit))) r ⌝ }
 {
-    let cell = get(state, work, node);
-    let other = get(state, work, right_of(policy, node));
-    let status = join(join_of(policy, node), RUNNING, other.status);
-    if is_running(status) {
-        put(
-            state,
-            work,
-            node,
-            Cell {
-                stage: 1,
-                phase: cell.phase,
-                action: cell.action,
-                fed: cell.fed,
-                sup: cell.sup,
-                status: cell.status,
-                mark: cell.mark,
-            },
-        );
-        return Fed::Back;
-    }
-    put(
-        state,
-        work,
-        node,
-        Cell {
-            stage: 6,
-            phase: cell.phase,
-            action: cell.action,
-            fed: cell.fed,
-            sup: cell.sup,
-            status: status,
-            mark: cell.mark,
-        },
-    );
-    Fed::Over(false)
+    let cell = waiting_cell(policy, state, work, node);
+    put(state, work, node, cell);
+    back_or_over(cell.status)
 }
 
 // Sequential, the end of the right side's turn where it goes first: the left side's turn, unless the node is decided.
