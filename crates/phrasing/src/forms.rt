@@ -27,6 +27,36 @@ pub struct Form {
     pub third: Slot,
 }
 
+const LEAF: [u8; 13] = *b"leaf         ";
+
+const TRIVIAL: [u8; 13] = *b"trivial      ";
+
+const UNSATISFIABLE: [u8; 13] = *b"unsatisfiable";
+
+const AND: [u8; 13] = *b"and          ";
+
+const SEQ_AND: [u8; 13] = *b"seq-and      ";
+
+const OR: [u8; 13] = *b"or           ";
+
+const SEQ_OR: [u8; 13] = *b"seq-or       ";
+
+const NEXT: [u8; 13] = *b"next         ";
+
+const OK: [u8; 13] = *b"ok           ";
+
+const SUP: [u8; 13] = *b"sup          ";
+
+const INS: [u8; 13] = *b"ins          ";
+
+const ACASE: [u8; 13] = *b"acase        ";
+
+const SPEND: [u8; 13] = *b"spend        ";
+
+const END: [u8; 13] = *b"end          ";
+
+const HALT: [u8; 13] = *b"halt         ";
+
 const NOTHING: Slot = Slot::Nothing;
 
 const REGULATED: Slot = Slot::Actions(5);
@@ -77,19 +107,19 @@ fn node_form(kind: u8) -> Form
     match kind {
         1 => Form {
             known: true,
-            name: *b"leaf         ",
+            name: LEAF,
             length: 4,
             room: 255,
             first: REGULATED,
             second: START,
             third: NOTHING,
         },
-        2 => formed(*b"trivial      ", 7, NOTHING, NOTHING, NOTHING),
-        3 => formed(*b"unsatisfiable", 13, NOTHING, NOTHING, NOTHING),
-        4 => formed(*b"and          ", 3, LEFT, RIGHT, NOTHING),
-        5 => formed(*b"seq-and      ", 7, LEFT, RIGHT, NOTHING),
-        6 => formed(*b"or           ", 2, LEFT, RIGHT, NOTHING),
-        7 => formed(*b"seq-or       ", 6, LEFT, RIGHT, NOTHING),
+        2 => formed(TRIVIAL, 7, NOTHING, NOTHING, NOTHING),
+        3 => formed(UNSATISFIABLE, 13, NOTHING, NOTHING, NOTHING),
+        4 => formed(AND, 3, LEFT, RIGHT, NOTHING),
+        5 => formed(SEQ_AND, 7, LEFT, RIGHT, NOTHING),
+        6 => formed(OR, 2, LEFT, RIGHT, NOTHING),
+        7 => formed(SEQ_OR, 6, LEFT, RIGHT, NOTHING),
         _ => UNKNOWN,
     }
 }
@@ -98,14 +128,14 @@ fn step_form(kind: u8) -> Form
     ensures { λ r. ⌜ Means step kind r ⌝ }
 {
     match kind {
-        1 => formed(*b"next         ", 4, FIRST, SECOND, NOTHING),
-        2 => formed(*b"ok           ", 2, FIRST, NOTHING, NOTHING),
-        3 => formed(*b"sup          ", 3, FIRST, NOTHING, NOTHING),
-        4 => formed(*b"ins          ", 3, ACTION, FIRST, NOTHING),
-        5 => formed(*b"acase        ", 5, OPERAND, FIRST, SECOND),
-        6 => formed(*b"spend        ", 5, AMOUNT, FIRST, SECOND),
-        7 => formed(*b"end          ", 3, NOTHING, NOTHING, NOTHING),
-        8 => formed(*b"halt         ", 4, NOTHING, NOTHING, NOTHING),
+        1 => formed(NEXT, 4, FIRST, SECOND, NOTHING),
+        2 => formed(OK, 2, FIRST, NOTHING, NOTHING),
+        3 => formed(SUP, 3, FIRST, NOTHING, NOTHING),
+        4 => formed(INS, 3, ACTION, FIRST, NOTHING),
+        5 => formed(ACASE, 5, OPERAND, FIRST, SECOND),
+        6 => formed(SPEND, 5, AMOUNT, FIRST, SECOND),
+        7 => formed(END, 3, NOTHING, NOTHING, NOTHING),
+        8 => formed(HALT, 4, NOTHING, NOTHING, NOTHING),
         _ => UNKNOWN,
     }
 }
