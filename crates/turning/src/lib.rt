@@ -1,34 +1,26 @@
 // The turn: a node's phase goes on to its next insert, or to its end. A node's turn calls its sides' turns; the height falls. It goes by
 // rounds: in each one side goes on, and the node does what follows, so that a node takes one frame of the stack.
 ghost use mathlib.Core.Path.{_≡_};
-ghost use Rattle.policy.specs.Tree.{parallel, sequential, aPair};
-ghost use Rattle.policy.specs.Tree.{treeAt};
+ghost use Rattle.policy.specs.Tree.{aPair, treeAt};
 ghost use Rattle.reading.specs.Kinds.{wayOf};
 ghost use Rattle.memory.specs.Memory.{view};
 ghost use Rattle.memory.specs.Promises as promises;
 ghost use Rattle.sides.specs.Sides.{kindAt, joinAt};
 ghost use Rattle.starting.specs.Ready.{Ready, Few};
-ghost use Rattle.turning.specs.Rounds.{Round};
+ghost use Rattle.following.specs.Rounds.{AtRight, Round};
+use following::after_left;
+use following::after_right;
+use following::is_late;
 use memory::cells::get;
 use memory::outcomes::Fed;
-use memory::outcomes::Part;
 use memory::outcomes::Progress;
 use memory::outcomes::Went;
-use moves::conclude;
-use moves::finish;
-use moves::give;
-use moves::own_end;
-use moves::part;
-use moves::pass;
-use moves::to_left;
-use moves::to_right;
 use reading::Kind;
 use reading::Way;
 use reading::node_kind;
 use reading::node_place;
 use sides::left_of;
 use sides::right_of;
-use starting::asks;
 use starting::begin;
 use starting::leaf_at;
 use starting::over_at;
@@ -105,6 +97,7 @@ fn rounds(
     }
 }
 
+// A round, by the node's stage: one of its sides goes on, unless the node's phase is over.
 fn round(
     policy: &[u8],
     sets: &[u64; 31],
@@ -117,121 +110,20 @@ fn round(
     requires { ⌜ (Ready (now policy) (now sets) (now firsts) (now state) (now work) node × Few (now policy) node (view (now state) (now work))) × ((kindAt (now policy) node ≡ aPair (wayOf way) (joinAt (now policy) node)) × ((view (now state) (now work)) node .stage ≡ 0 → ⊥)) ⌝ }
     ensures { λ r. ⌜ Round (now (policy .entry)) (wayOf way) node (view (now (state .entry)) (now (work .entry))) (view (now (state .exit)) (now (work .exit))) (r .steps) (r .what) ⌝ }
 {
-    match way {
-        Way::Parallel => parallel(policy, sets, firsts, state, work, node),
-        Way::Sequential => sequential(policy, sets, firsts, state, work, node),
-    }
-}
-
-// A round of a parallel node: the left side to its end, then the right.
-fn parallel(
-    policy: &[u8],
-    sets: &[u64; 31],
-    firsts: &[u16; 31],
-    state: &mut [u8],
-    work: &mut [u8],
-    node: usize,
-) -> Turned
-    requires { ⌜ (Ready (now policy) (now sets) (now firsts) (now state) (now work) node × Few (now policy) node (view (now state) (now work))) × ((kindAt (now policy) node ≡ aPair parallel (joinAt (now policy) node)) × ((view (now state) (now work)) node .stage ≡ 0 → ⊥)) ⌝ }
-    ensures { λ r. ⌜ Round (now (policy .entry)) parallel node (view (now (state .entry)) (now (work .entry))) (view (now (state .exit)) (now (work .exit))) (r .steps) (r .what) ⌝ }
-{
     let cell = get(state, work, node);
     if cell.stage == 1 {
-        return left_first(policy, sets, firsts, state, work, node);
+        return from_left(policy, sets, firsts, state, work, node, way);
     }
-    second(policy, sets, firsts, state, work, node)
+    if is_late(way, cell.stage) {
+        return Turned {
+            steps: 0,
+            what: Fed::Over(cell.sup == 1),
+        };
+    }
+    feed(policy, sets, firsts, state, work, node, way)
 }
 
-// A parallel node at its left side.
-fn left_first(
-    policy: &[u8],
-    sets: &[u64; 31],
-    firsts: &[u16; 31],
-    state: &mut [u8],
-    work: &mut [u8],
-    node: usize,
-) -> Turned
-    requires { ⌜ (Ready (now policy) (now sets) (now firsts) (now state) (now work) node × Few (now policy) node (view (now state) (now work))) × ((kindAt (now policy) node ≡ aPair parallel (joinAt (now policy) node)) × ((view (now state) (now work)) node .stage ≡ 1)) ⌝ }
-    ensures { λ r. ⌜ Round (now (policy .entry)) parallel node (view (now (state .entry)) (now (work .entry))) (view (now (state .exit)) (now (work .exit))) (r .steps) (r .what) ⌝ }
-{
-    let p = advance(policy, sets, firsts, state, work, left_of(policy, node));
-    let what = p.what;
-    match what {
-        Progress::Insert(b) => Turned {
-            steps: p.steps,
-            what: Fed::Yield(b),
-        },
-        Progress::Done(u) => {
-            to_right(policy, state, work, node, u);
-            Turned {
-                steps: p.steps,
-                what: Fed::Back,
-            }
-        }
-    }
-}
-
-// A parallel node at its right side.
-fn second(
-    policy: &[u8],
-    sets: &[u64; 31],
-    firsts: &[u16; 31],
-    state: &mut [u8],
-    work: &mut [u8],
-    node: usize,
-) -> Turned
-    requires { ⌜ (Ready (now policy) (now sets) (now firsts) (now state) (now work) node × Few (now policy) node (view (now state) (now work))) × ((kindAt (now policy) node ≡ aPair parallel (joinAt (now policy) node)) × (((view (now state) (now work)) node .stage ≡ 0 → ⊥) × ((view (now state) (now work)) node .stage ≡ 1 → ⊥))) ⌝ }
-    ensures { λ r. ⌜ Round (now (policy .entry)) parallel node (view (now (state .entry)) (now (work .entry))) (view (now (state .exit)) (now (work .exit))) (r .steps) (r .what) ⌝ }
-{
-    let p = advance(policy, sets, firsts, state, work, right_of(policy, node));
-    let what = p.what;
-    match what {
-        Progress::Insert(b) => Turned {
-            steps: p.steps,
-            what: Fed::Yield(b),
-        },
-        Progress::Done(u) => Turned {
-            steps: p.steps,
-            what: Fed::Over(conclude(policy, state, work, node, u)),
-        },
-    }
-}
-
-// A round of a sequential node, by its stage.
-fn sequential(
-    policy: &[u8],
-    sets: &[u64; 31],
-    firsts: &[u16; 31],
-    state: &mut [u8],
-    work: &mut [u8],
-    node: usize,
-) -> Turned
-    requires { ⌜ (Ready (now policy) (now sets) (now firsts) (now state) (now work) node × Few (now policy) node (view (now state) (now work))) × ((kindAt (now policy) node ≡ aPair sequential (joinAt (now policy) node)) × ((view (now state) (now work)) node .stage ≡ 0 → ⊥)) ⌝ }
-    ensures { λ r. ⌜ Round (now (policy .entry)) sequential node (view (now (state .entry)) (now (work .entry))) (view (now (state .exit)) (now (work .exit))) (r .steps) (r .what) ⌝ }
-{
-    let cell = get(state, work, node);
-    if cell.stage == 1 {
-        return from_left(policy, sets, firsts, state, work, node);
-    }
-    if cell.stage == 2 {
-        return feed(policy, sets, firsts, state, work, node, cell.fed);
-    }
-    if cell.stage == 3 {
-        return fed_after(policy, sets, firsts, state, work, node);
-    }
-    if cell.stage == 4 {
-        return own(policy, sets, firsts, state, work, node);
-    }
-    if cell.stage == 5 {
-        return first(policy, sets, firsts, state, work, node);
-    }
-    Turned {
-        steps: 0,
-        what: Fed::Over(cell.sup == 1),
-    }
-}
-
-// A sequential node at its left side: an insert that the right side regulates is given to it as a turn of its own.
+// A node at its left side.
 fn from_left(
     policy: &[u8],
     sets: &[u64; 31],
@@ -239,45 +131,22 @@ fn from_left(
     state: &mut [u8],
     work: &mut [u8],
     node: usize,
+    way: Way,
 ) -> Turned
-    requires { ⌜ (Ready (now policy) (now sets) (now firsts) (now state) (now work) node × Few (now policy) node (view (now state) (now work))) × ((kindAt (now policy) node ≡ aPair sequential (joinAt (now policy) node)) × ((view (now state) (now work)) node .stage ≡ 1)) ⌝ }
-    ensures { λ r. ⌜ Round (now (policy .entry)) sequential node (view (now (state .entry)) (now (work .entry))) (view (now (state .exit)) (now (work .exit))) (r .steps) (r .what) ⌝ }
+    requires { ⌜ (Ready (now policy) (now sets) (now firsts) (now state) (now work) node × Few (now policy) node (view (now state) (now work))) × ((kindAt (now policy) node ≡ aPair (wayOf way) (joinAt (now policy) node)) × ((view (now state) (now work)) node .stage ≡ 1)) ⌝ }
+    ensures { λ r. ⌜ Round (now (policy .entry)) (wayOf way) node (view (now (state .entry)) (now (work .entry))) (view (now (state .exit)) (now (work .exit))) (r .steps) (r .what) ⌝ }
 {
     let left = left_of(policy, node);
-    let right = right_of(policy, node);
     let p = advance(policy, sets, firsts, state, work, left);
+    let right = right_of(policy, node);
     let what = p.what;
-    match what {
-        Progress::Insert(b) => {
-            if !asks(sets, state, work, right, b) {
-                return Turned {
-                    steps: p.steps,
-                    what: Fed::Yield(b),
-                };
-            }
-            give(policy, state, work, node, b);
-            Turned {
-                steps: p.steps,
-                what: Fed::Back,
-            }
-        }
-        Progress::Done(u) => {
-            let e = part(policy, state, work, node, u);
-            match e {
-                Part::Own => Turned {
-                    steps: p.steps,
-                    what: Fed::Back,
-                },
-                Part::Ends(v) => Turned {
-                    steps: p.steps,
-                    what: Fed::Over(v),
-                },
-            }
-        }
+    Turned {
+        steps: p.steps,
+        what: after_left(policy, sets, state, work, node, right, way, what),
     }
 }
 
-// A sequential node at its right side's turn on an insert.
+// A node at its right side: a turn on an insert that the left side gave on, or the right side's own part.
 fn feed(
     policy: &[u8],
     sets: &[u64; 31],
@@ -285,115 +154,15 @@ fn feed(
     state: &mut [u8],
     work: &mut [u8],
     node: usize,
-    fed: u8,
+    way: Way,
 ) -> Turned
-    requires { ⌜ (Ready (now policy) (now sets) (now firsts) (now state) (now work) node × Few (now policy) node (view (now state) (now work))) × ((kindAt (now policy) node ≡ aPair sequential (joinAt (now policy) node)) × (((view (now state) (now work)) node .stage ≡ 2) × (fed ≡ (view (now state) (now work)) node .fed))) ⌝ }
-    ensures { λ r. ⌜ Round (now (policy .entry)) sequential node (view (now (state .entry)) (now (work .entry))) (view (now (state .exit)) (now (work .exit))) (r .steps) (r .what) ⌝ }
+    requires { ⌜ (Ready (now policy) (now sets) (now firsts) (now state) (now work) node × Few (now policy) node (view (now state) (now work))) × ((kindAt (now policy) node ≡ aPair (wayOf way) (joinAt (now policy) node)) × (AtRight (wayOf way) ((view (now state) (now work)) node .stage))) ⌝ }
+    ensures { λ r. ⌜ Round (now (policy .entry)) (wayOf way) node (view (now (state .entry)) (now (work .entry))) (view (now (state .exit)) (now (work .exit))) (r .steps) (r .what) ⌝ }
 {
     let p = advance(policy, sets, firsts, state, work, right_of(policy, node));
     let what = p.what;
-    match what {
-        Progress::Insert(b) => Turned {
-            steps: p.steps,
-            what: Fed::Yield(b),
-        },
-        Progress::Done(u) => {
-            if pass(policy, state, work, node, u) {
-                return Turned {
-                    steps: p.steps,
-                    what: Fed::Yield(fed),
-                };
-            }
-            Turned {
-                steps: p.steps,
-                what: Fed::Back,
-            }
-        }
-    }
-}
-
-// The same, after its verdict.
-fn fed_after(
-    policy: &[u8],
-    sets: &[u64; 31],
-    firsts: &[u16; 31],
-    state: &mut [u8],
-    work: &mut [u8],
-    node: usize,
-) -> Turned
-    requires { ⌜ (Ready (now policy) (now sets) (now firsts) (now state) (now work) node × Few (now policy) node (view (now state) (now work))) × ((kindAt (now policy) node ≡ aPair sequential (joinAt (now policy) node)) × ((view (now state) (now work)) node .stage ≡ 3)) ⌝ }
-    ensures { λ r. ⌜ Round (now (policy .entry)) sequential node (view (now (state .entry)) (now (work .entry))) (view (now (state .exit)) (now (work .exit))) (r .steps) (r .what) ⌝ }
-{
-    let p = advance(policy, sets, firsts, state, work, right_of(policy, node));
-    let what = p.what;
-    match what {
-        Progress::Insert(b) => Turned {
-            steps: p.steps,
-            what: Fed::Yield(b),
-        },
-        Progress::Done(_) => Turned {
-            steps: p.steps,
-            what: finish(policy, state, work, node),
-        },
-    }
-}
-
-// A sequential node at its right side's own part.
-fn own(
-    policy: &[u8],
-    sets: &[u64; 31],
-    firsts: &[u16; 31],
-    state: &mut [u8],
-    work: &mut [u8],
-    node: usize,
-) -> Turned
-    requires { ⌜ (Ready (now policy) (now sets) (now firsts) (now state) (now work) node × Few (now policy) node (view (now state) (now work))) × ((kindAt (now policy) node ≡ aPair sequential (joinAt (now policy) node)) × ((view (now state) (now work)) node .stage ≡ 4)) ⌝ }
-    ensures { λ r. ⌜ Round (now (policy .entry)) sequential node (view (now (state .entry)) (now (work .entry))) (view (now (state .exit)) (now (work .exit))) (r .steps) (r .what) ⌝ }
-{
-    let p = advance(policy, sets, firsts, state, work, right_of(policy, node));
-    let what = p.what;
-    match what {
-        Progress::Insert(b) => Turned {
-            steps: p.steps,
-            what: Fed::Yield(b),
-        },
-        Progress::Done(u) => Turned {
-            steps: p.steps,
-            what: Fed::Over(own_end(policy, state, work, node, u)),
-        },
-    }
-}
-
-// A sequential node at its right side, which goes first after the verdict.
-fn first(
-    policy: &[u8],
-    sets: &[u64; 31],
-    firsts: &[u16; 31],
-    state: &mut [u8],
-    work: &mut [u8],
-    node: usize,
-) -> Turned
-    requires { ⌜ (Ready (now policy) (now sets) (now firsts) (now state) (now work) node × Few (now policy) node (view (now state) (now work))) × ((kindAt (now policy) node ≡ aPair sequential (joinAt (now policy) node)) × ((view (now state) (now work)) node .stage ≡ 5)) ⌝ }
-    ensures { λ r. ⌜ Round (now (policy .entry)) sequential node (view (now (state .entry)) (now (work .entry))) (view (now (state .exit)) (now (work .exit))) (r .steps) (r .what) ⌝ }
-{
-    let p = advance(policy, sets, firsts, state, work, right_of(policy, node));
-    let what = p.what;
-    match what {
-        Progress::Insert(b) => Turned {
-            steps: p.steps,
-            what: Fed::Yield(b),
-        },
-        Progress::Done(_) => {
-            if to_left(policy, state, work, node) {
-                return Turned {
-                    steps: p.steps,
-                    what: Fed::Back,
-                };
-            }
-            Turned {
-                steps: p.steps,
-                what: Fed::Over(false),
-            }
-        }
+    Turned {
+        steps: p.steps,
+        what: after_right(policy, state, work, node, way, what),
     }
 }

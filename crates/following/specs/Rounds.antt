@@ -1,10 +1,11 @@
 -- A round of a node's turn: one of its sides goes on to its next insert or its phase's end, and the node does what follows. Assumes nothing.
-use Prim.Native.Nat.{ℕ, zero, suc, _+_, _*_, _<_}
+use Prim.Native.Nat.{ℕ, zero, suc, _+_, _*_, _≤_, _<_}
 use mathlib.Core.Path.{_≡_}
 use lib.ListN.{length}
 use Rattle.policy.specs.Bytes.{Bytes}
 use Rattle.policy.specs.Tree.{Way, parallel, sequential, Tree, treeAt}
 use Rattle.turns.specs.Turn.{after}
+use Rattle.memory.specs.declared.outcomes.Progress.{Progress}
 use Rattle.memory.specs.declared.outcomes.Progress.the-variants.{Insert, Done}
 use Rattle.memory.specs.declared.outcomes.Fed.{Fed}
 use Rattle.memory.specs.declared.outcomes.Fed.the-variants.{Back, Yield, Over}
@@ -41,3 +42,11 @@ Turns policy w i m m′ n (Over u) = Went (treeAt policy i) m m′ n (Done u)
 
 pub record Round (policy : Bytes) (w : Way) (i : ℕ) (m m′ : Mem) (n : ℕ) (x : Fed) : Type 0 where
   pub turns : Turns policy w i m m′ n x
+
+-- at this stage the right side goes on
+abbrev pub AtRight : Way → ℕ → Type 0
+AtRight w q = ((q ≡ 0 → ⊥) × (q ≡ 1 → ⊥)) × (w ≡ sequential → q ≤ 5)
+
+-- once the side k has gone on, so many steps to x, from a memory m to m′, what the node did made it m″ and the round r
+pub record Follows (policy : Bytes) (w : Way) (i k : ℕ) (x : Progress) (m′ m″ : Mem) (r : Fed) : Type 0 where
+  pub follows : (m : Mem) (n : ℕ) → Went (treeAt policy k) m m′ n x → Round policy w i m m″ n r

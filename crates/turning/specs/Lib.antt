@@ -1,2 +1,0 @@
--- A round of a node's turn. Assumes nothing.
-pub mod Rounds
