@@ -15,7 +15,9 @@ programs:
 	@rt check guardrun guardwrite guardtext >target/programs.log 2>&1 || { cat target/programs.log; exit 1; }
 
 trials:
-	tests/trials $(COUNT) $(SEED)
+	@mkdir -p target
+	@rt check trials >target/trials.log 2>&1 || { cat target/trials.log; exit 1; }
+	@tests/trials $(COUNT) $(SEED)
 
 bench:
 	bench/run
