@@ -11,7 +11,7 @@ use Rattle.conduct.proofs.Bounds.{answered-emits}
 use Rattle.answering.specs.declared.Answer as guard
 use Rattle.answering.specs.declared.Answer.the-variants.{Answered, Refused}
 use Rattle.answering.specs.Replies.{spoken}
-use Rattle.writing.specs.Writing as writing
+use Rattle.files.specs.Writing as writing
 use Rattle.writing.specs.Replies as replies
 use Rattle.writing.specs.declared.Written.the-variants as written
 use Rattle.fretmere.specs.Words.{Says, refusalWord, word, Few, sizeWord}

@@ -7,7 +7,7 @@ use Rattle.turns.specs.Status.{statusNumber}
 use Rattle.turns.specs.Entries.{Reply, answers, refuses, Result}
 use Rattle.answering.specs.declared.Answer as guard
 use Rattle.answering.specs.declared.Answer.the-variants.{Answered, Refused}
-use Rattle.writing.specs.Writing as writing
+use Rattle.files.specs.Writing as writing
 
 -- The check: zero and both sets, or the refusal's number, and then both stay as they were.
 abbrev pub Says : Answer → ℕ → (a b a′ b′ : ℕ) → Type 0

@@ -3,7 +3,7 @@ ghost use mathlib.Core.Path.{_≡_};
 ghost use Rattle.rules.specs.Check.{check};
 ghost use Rattle.turns.specs.Entries.{Reply, opens, offers, closes};
 ghost use Rattle.answering.specs.Replies.{spoken};
-ghost use Rattle.writing.specs.Writing as writing;
+ghost use Rattle.files.specs.Writing as writing;
 ghost use Rattle.writing.specs.Replies as replies;
 ghost use Rattle.fretmere.specs.Words.{Says, refusalWord, Few, word, Gave, sizeWord, Produced};
 use answering::Answer;

@@ -21,15 +21,14 @@ use Rattle.transcribing.specs.Transcribed.{Result, gave, transcribed}
 use Rattle.transcribing.specs.declared.Answer.{Answer}
 use Rattle.transcribing.specs.declared.Answer.the-variants.{Read, BadLine, Short}
 use Rattle.transcribing.proofs.ReadLaws.{Counts, counts}
-use Rattle.writing.specs.Writing as writing
-use Rattle.writing.specs.Writing.{holds, Reply, wrote, refuses, writes, written, laid, after}
-use Rattle.writing.specs.Lent.{lendable, Lent}
+use Rattle.files.specs.Writing as writing
+use Rattle.files.specs.Writing.{holds, Reply, wrote, refuses, writes, written, laid, after}
+use Rattle.files.specs.Lent.{lendable, Lent}
 use Rattle.writing.specs.Replies.{spoken, Gave}
 use Rattle.writing.specs.declared.Written.{Written}
 use Rattle.writing.specs.declared.Written.the-variants.{Wrote, Refused}
-use Rattle.writing.proofs.Files.{written-length, lendable-lent, unlent, by-check}
-use Rattle.writing.proofs.Lays.{taken-again}
-use Rattle.writing.proofs.ReadBack.{read-back}
+use Rattle.files.proofs.Files.{written-length, lendable-lent, unlent, by-check, taken-again}
+use Rattle.files.proofs.ReadBack.{read-back}
 use Rattle.spelling.specs.Added.{Added, Tells}
 use Rattle.spelling.specs.Refusal.{refusal}
 use Rattle.spelling.proofs.AddedLaws.{tells}

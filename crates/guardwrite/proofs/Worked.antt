@@ -5,7 +5,7 @@ use Rattle.policy.specs.Opened.{opened as files}
 use Rattle.rules.specs.Opened.{opened as rules}
 use Rattle.text.specs.Opened.{opened as texts}
 use Rattle.text.specs.Examples.{repeated}
-use Rattle.writing.specs.Writing.{holds, written, whole, fromThree, refusal, laid, after, writes}
+use Rattle.files.specs.Writing.{holds, written, whole, fromThree, refusal, laid, after, writes}
 use Rattle.spelling.specs.Refusal as spelling
 use Rattle.blaming.specs.Expected.{heading, lineSays, usages, usage, expected, firstWord, astray, fault, roomAfter, roomBefore, lineNumber, faultIn}
 use Rattle.guardwrite.specs.Said.{filed, answered, tooLong, madeOver, made}

@@ -8,7 +8,7 @@ use Rattle.text.specs.Words.{ascii, lines}
 use Rattle.text.specs.Reading.{Read, records, badLine, readText}
 use Rattle.spelling.specs.Refusal.{refusal}
 use Rattle.blaming.specs.Expected.{lineSays, faultIn}
-use Rattle.writing.specs.Writing.{wrote, refuses, Result, writes}
+use Rattle.files.specs.Writing.{wrote, refuses, Result, writes}
 
 -- the file, or a refusal and no byte of a file
 unfoldable pub filed : Result → Bytes

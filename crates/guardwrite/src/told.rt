@@ -3,7 +3,7 @@ ghost use mathlib.Core.Path.{_≡_};
 ghost use Prim.Native.Nat.{_≤_, _<_};
 ghost use lib.ListN.{length};
 ghost use Rattle.text.specs.Reading.{readText};
-ghost use Rattle.writing.specs.Writing.{writes};
+ghost use Rattle.files.specs.Writing.{writes};
 ghost use Rattle.spelling.specs.Added.{Tells};
 ghost use Rattle.spelling.specs.Refusal.{refusal};
 ghost use Rattle.guardwrite.specs.Said.{filed, answered, mostText, tooLong, outRoom, made};

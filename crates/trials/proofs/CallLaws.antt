@@ -12,7 +12,7 @@ use Rattle.turns.specs.Turn.{Request, opening, offer, close}
 use Rattle.turns.specs.Entries.{entry}
 use Rattle.answering.specs.Replies.{Gave}
 use Rattle.answering.specs.declared.Answer.{Answer}
-use Rattle.writing.specs.Writing as writing
+use Rattle.files.specs.Writing as writing
 use Rattle.writing.specs.Replies as replies
 use Rattle.writing.specs.declared.Written.{Written}
 use Rattle.trials.specs.Calls.{fieldEnd, policyEnd, stateEnd, eventsEnd, longest, Placed, part, policyIn, stateIn, eventsIn, request, called, fileCalled, Found, Taken, replyBytes, Answers, sizeBytes, Wrote}

@@ -12,7 +12,7 @@ use Rattle.turns.specs.Entries.{Result, entry}
 use Rattle.answering.specs.Replies.{spoken}
 use Rattle.answering.specs.declared.Answer as guard
 use Rattle.answering.specs.declared.Answer.the-variants.{Answered, Refused}
-use Rattle.writing.specs.Writing as writing
+use Rattle.files.specs.Writing as writing
 use Rattle.writing.specs.Replies as replies
 use Rattle.writing.specs.declared.Written.{Written}
 use Rattle.writing.specs.declared.Written.the-variants as written

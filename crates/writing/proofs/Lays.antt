@@ -5,7 +5,7 @@ use mathlib.Core.Path.{_≡_, refl, sym, ap, _∙_, subst}
 use mathlib.Core.Bool.{false}
 use mathlib.Core.List.{_∷_, _++_, append-assoc}
 use lib.ListN.{length, take, drop, length-append, length-drop, take-append-drop}
-use lib.Seq.{take-length, drop-append-le, drop-drop, length-take-le, take-at}
+use lib.Seq.{take-length, drop-append-le, drop-drop, length-take-le}
 use borrow.Author.Tests.{lt-ltb, le-ltb}
 use borrow.Rule.Slice.PartMut.{putMid, midOf}
 use Rattle.policy.specs.Bytes.{Bytes, spell, put}
@@ -13,12 +13,12 @@ use Rattle.policy.specs.Records.{nodeSize, stepSize}
 use Rattle.policy.specs.Parts.{file}
 use Rattle.policy.proofs.ByteLaws.{put-append}
 use Rattle.rules.specs.Check.{Answer, passes, refused, check}
-use Rattle.writing.specs.Writing.{holds, written, Result, refusal, laid, after, writes}
-use Rattle.writing.specs.Lent.{lendable, Lent}
+use Rattle.files.specs.Writing.{holds, written, Result, refusal, laid, after, writes}
+use Rattle.files.specs.Lent.{lendable, Lent}
 use Rattle.writing.specs.Replies.{spoken, Gave}
 use Rattle.writing.specs.declared.Written.{Written}
 use Rattle.writing.specs.declared.Written.the-variants.{Wrote, Refused}
-use Rattle.writing.proofs.Files.{written-length, unlent, by-check}
+use Rattle.files.proofs.Files.{written-length, unlent, by-check}
 
 -- bytes copied to the start of what follows the first `at` bytes
 pub copied : (bs from ys : Bytes) (at : ℕ) → at + length from ≤ length bs
@@ -45,11 +45,6 @@ laid-out nodes steps out {front} {a} {b} {c} {size} e l h f p q r =
     ∙ put-append out 0 (front ++ nodes) (6 + length nodes) steps (rw length-append (omega arith)) (omega arith)
     ∙ ap (put out 0) (append-assoc front nodes steps ∙ ap (λ (zs : Bytes). zs ++ (nodes ++ steps)) f)
     ∙ ap (λ (j : ℕ). put out 0 (spell 2 j ++ (1 ∷ holds nodeSize nodes ∷ (spell 2 (holds stepSize steps) ++ (nodes ++ steps))))) k
-
--- what was laid, taken again
-pub taken-again : (out : Bytes) {made filled : Bytes} {n : ℕ} → n ≡ length made → filled ≡ put out 0 made → take n filled ≡ made
-unfolding put
-taken-again out {made} {filled} {n} e f = ap (take n) f ∙ take-at made (drop (0 + length made) out) n (sym e)
 
 -- ---- the answers in their order
 

@@ -1,4 +1,1 @@
-pub mod Files
 pub mod Lays
-pub mod ReadBack
-pub mod Again

@@ -1,4 +1,1 @@
-pub mod Writing
-pub mod Lent
 pub mod Replies
-pub mod Promises

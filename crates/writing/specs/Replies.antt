@@ -1,7 +1,7 @@
 -- What the writer's enum stands for: the length of the file, or the refusal's number. Assumes nothing.
 use mathlib.Core.Path.{_≡_}
 use Rattle.policy.specs.Bytes.{Bytes}
-use Rattle.writing.specs.Writing.{Reply, wrote, refuses, Result}
+use Rattle.files.specs.Writing.{Reply, wrote, refuses, Result}
 use Rattle.writing.specs.declared.Written.{Written}
 use Rattle.writing.specs.declared.Written.the-variants.{Wrote, Refused}
 

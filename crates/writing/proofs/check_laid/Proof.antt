@@ -4,7 +4,7 @@ use mathlib.Core.Path.{sym, ap, _∙_}
 use lib.Seq.{length-take-le}
 use borrow.Author.Needs.{needs}
 use Rattle.rules.specs.Check.{check}
-use Rattle.writing.proofs.Lays.{taken-again}
+use Rattle.files.proofs.Files.{taken-again}
 use Rattle.writing.proofs.check_laid.Statement.{statement}
 use Rattle.writing.proofs.check_laid.Tie as tie
 

@@ -4,8 +4,8 @@ use mathlib.Core.Path.{ap}
 use lib.ListN.{length}
 use borrow.Author.Needs.{needs}
 use Rattle.policy.specs.Bytes.{spell}
-use Rattle.writing.specs.Writing.{holds}
-use Rattle.writing.proofs.Files.{written-length}
+use Rattle.files.specs.Writing.{holds}
+use Rattle.files.proofs.Files.{written-length}
 use Rattle.writing.proofs.Lays.{laid-out}
 use Rattle.writing.proofs.lay.Statement.{statement}
 use Rattle.writing.proofs.lay.Tie as tie

@@ -1,7 +1,7 @@
 -- `lendable` meets its contract. Assumes nothing.
 use mathlib.Core.Path.{refl}
-use Rattle.writing.specs.Writing.{holds, whole}
-use Rattle.writing.specs.Lent.{lendable}
+use Rattle.files.specs.Writing.{holds, whole}
+use Rattle.files.specs.Lent.{lendable}
 use Rattle.writing.proofs.lendable.Statement.{statement}
 use Rattle.writing.proofs.lendable.Tie as tie
 

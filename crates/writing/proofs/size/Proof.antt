@@ -1,7 +1,7 @@
 -- `size` meets its contract. Assumes nothing.
 use native.Mathlib.Omega.{arith}
 use borrow.Author.Needs.{needs}
-use Rattle.writing.proofs.Files.{written-length}
+use Rattle.files.proofs.Files.{written-length}
 use Rattle.writing.proofs.size.Statement.{statement}
 use Rattle.writing.proofs.size.Tie as tie
 

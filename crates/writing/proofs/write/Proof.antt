@@ -5,7 +5,7 @@ use borrow.Author.Needs.{needs}
 use borrow.Author.Tests.{not-true, not-false}
 use Rattle.checking.specs.Answers.{answered}
 use Rattle.checking.proofs.Answers.{check-passes, check-refuses}
-use Rattle.writing.proofs.Files.{lendable-lent}
+use Rattle.files.proofs.Files.{lendable-lent}
 use Rattle.writing.proofs.Lays.{gave-3, gave-refused, gave-15, gave-file}
 use Rattle.writing.proofs.write.Statement.{statement}
 use Rattle.writing.proofs.write.Tie as tie

@@ -6,18 +6,19 @@ use native.Mathlib.Omega.{arith}
 use mathlib.Core.Path.{_≡_, refl, sym, ap, _∙_}
 use mathlib.Core.Bool.{Bool, true, false, _&&_}
 use lib.Dec.{T, eqb, leb, eqb→eq, leb→le}
-use lib.ListN.{length, length-append}
+use lib.ListN.{length, take, drop, length-append}
+use lib.Seq.{take-at}
 use borrow.Author.Tests.{eq-eqb, le-leb, le-ltb}
 use Rattle.actions.proofs.Tests.{yes-of, of-yes, and-intro, and-left, and-right, true-not-false}
-use Rattle.policy.specs.Bytes.{Bytes, spelt, number, spell}
+use Rattle.policy.specs.Bytes.{Bytes, spelt, number, spell, put}
 use Rattle.policy.specs.Records.{nodeSize, stepSize, mostNodes, mostSteps, lengthField, versionField, nodeCount, stepCount, nodePlace, rowPlace}
 use Rattle.policy.specs.Parts.{file}
 use Rattle.policy.proofs.ByteLaws.{spelt-spell}
 use Rattle.rules.specs.Layout.{broken1, broken2, broken3}
 use Rattle.rules.specs.Check.{rules, Answer, refused, tried, check}
 use Rattle.rules.proofs.Rows.{CountsFit, counts-fit}
-use Rattle.writing.specs.Writing.{holds, written, whole, fromThree, refusal, after, writes}
-use Rattle.writing.specs.Lent.{lendable, Lent}
+use Rattle.files.specs.Writing.{holds, written, whole, fromThree, refusal, after, writes}
+use Rattle.files.specs.Lent.{lendable, Lent}
 
 -- ---- whole records
 
@@ -145,3 +146,8 @@ module _ (nodes steps : Bytes) where
   pub by-check : (out : Bytes) → Lent nodes steps → writes nodes steps out ≡ after (check (written nodes steps)) (written nodes steps) out
   unfolding writes
   by-check out l = rw (wholes l, writes) (ap (λ (a : Answer). after a (written nodes steps) out) (from-three l))
+
+-- what was laid, taken again
+pub taken-again : (out : Bytes) {made filled : Bytes} {n : ℕ} → n ≡ length made → filled ≡ put out 0 made → take n filled ≡ made
+unfolding put
+taken-again out {made} {filled} {n} e f = ap (take n) f ∙ take-at made (drop (0 + length made) out) n (sym e)

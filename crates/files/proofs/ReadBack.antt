@@ -20,13 +20,12 @@ use Rattle.rules.specs.Interference.{effects}
 use Rattle.rules.specs.Check.{Rule, rules, Answer, passes, refused, check}
 use Rattle.rules.proofs.Rows.{CountsFit, counts-fit, node-bytes-length, step-bytes-length}
 use Rattle.rules.proofs.Passed.{Lowest, here, after, passed, passes-all, refused-lowest}
-use Rattle.writing.specs.Writing as writing
-use Rattle.writing.specs.Writing.{holds, written, wrote, refuses, Result, refusal, laid, writes}
-use Rattle.writing.specs.Lent.{nodesLent, rowsLent, lendable, Lent}
-use Rattle.writing.specs.Promises.{ReadBack, Why, unlent, broken, short}
-use Rattle.writing.proofs.Files as files
-use Rattle.writing.proofs.Files.{holds-is, node-count, step-count-lent, kept1, kept2, kept3, lendable-lent, by-check}
-use Rattle.writing.proofs.Lays.{taken-again}
+use Rattle.files.specs.Writing as writing
+use Rattle.files.specs.Writing.{holds, written, wrote, refuses, Result, refusal, laid, writes}
+use Rattle.files.specs.Lent.{nodesLent, rowsLent, lendable, Lent}
+use Rattle.files.specs.Promises.{ReadBack, Why, unlent, broken, short}
+use Rattle.files.proofs.Files as files
+use Rattle.files.proofs.Files.{holds-is, node-count, step-count-lent, kept1, kept2, kept3, lendable-lent, by-check, taken-again}
 
 -- ---- a file's records are those that its node bytes and its step bytes spell
 

@@ -8,7 +8,7 @@ use lib.ListN.{length}
 use Rattle.policy.specs.Bytes.{Bytes}
 use Rattle.policy.specs.Lists.{listed}
 use Rattle.policy.specs.Records.{nodeSize, stepSize, mostNodes, mostSteps, Node, Row, nodeAt, rowAt}
-use Rattle.writing.specs.Writing.{holds, whole}
+use Rattle.files.specs.Writing.{holds, whole}
 
 -- the records that a buffer spells
 unfoldable pub nodesLent : Bytes → List Node

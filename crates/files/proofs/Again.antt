@@ -20,10 +20,10 @@ use Rattle.rules.specs.Passed.{Passed}
 use Rattle.rules.specs.Check.{Answer, passes, check}
 use Rattle.rules.proofs.Rows.{CountsFit, counts-fit, node-bytes-length, step-bytes-length}
 use Rattle.rules.proofs.Passed.{passed}
-use Rattle.writing.specs.Writing.{holds, written, laid, after}
-use Rattle.writing.specs.Lent.{Lent}
-use Rattle.writing.specs.Promises.{WrittenAgain}
-use Rattle.writing.proofs.Files.{holds-is, by-check}
+use Rattle.files.specs.Writing.{holds, written, laid, after}
+use Rattle.files.specs.Lent.{Lent}
+use Rattle.files.specs.Promises.{WrittenAgain}
+use Rattle.files.proofs.Files.{holds-is, by-check}
 
 module _ (made : Bytes) (small : Small made) where
   module _ (ok : Passed made) where

@@ -9,8 +9,8 @@ use Rattle.policy.specs.Records.{nodes, rows, nodeBytes, stepBytes}
 use Rattle.policy.specs.Tree.{regulated, tree}
 use Rattle.rules.specs.Interference.{effects}
 use Rattle.rules.specs.Check.{passes, refused, check}
-use Rattle.writing.specs.Writing.{written, wrote, Result, writes}
-use Rattle.writing.specs.Lent.{nodesLent, rowsLent, lendable, Lent}
+use Rattle.files.specs.Writing.{written, wrote, Result, writes}
+use Rattle.files.specs.Lent.{nodesLent, rowsLent, lendable, Lent}
 
 -- "Whatever it writes is read back by the check as the same records": the first n bytes of the output. "Output bytes after the file
 -- stay."
