@@ -20,7 +20,7 @@ use Rattle.text.specs.Printing.{Print, text, noText, both, listing, spaced, arg
 use Rattle.text.proofs.TableLaws.{first-passes}
 use Rattle.spelling.specs.Added.{led}
 use Rattle.spelling.proofs.AddedLaws.{decimal-below, member-none, member-first, member-next, members-next}
-use Rattle.printing.proofs.LaidLaws.{both-none, steps-short}
+use Rattle.lining.proofs.LaidLaws.{both-none, steps-short}
 
 -- ---- numbers and sets
 

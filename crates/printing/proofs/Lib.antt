@@ -1,3 +1,2 @@
-mod LaidLaws
 pub mod PrintLaws
 pub mod Lengths

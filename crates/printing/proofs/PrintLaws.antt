@@ -10,11 +10,11 @@ use borrow.Author.Tests.{le-leb, lt-leb, leb-true}
 use Rattle.policy.specs.Bytes.{Bytes}
 use Rattle.text.specs.Printing.{Print, text, noText}
 use Rattle.printing.specs.declared.Printed.the-variants.{Text, NoText, Short}
-use Rattle.printing.specs.declared.lines.Place.{Place}
-use Rattle.printing.specs.declared.lines.Place.the-variants.{Ends}
-use Rattle.printing.specs.declared.lines.Place.the-variants as place
+use Rattle.lining.specs.declared.Place.{Place}
+use Rattle.lining.specs.declared.Place.the-variants.{Ends}
+use Rattle.lining.specs.declared.Place.the-variants as place
 use Rattle.spelling.specs.Added.{limit, Added}
-use Rattle.printing.specs.Laid.{laid, Laid}
+use Rattle.lining.specs.Laid.{laid, Laid}
 use Rattle.printing.specs.Printing.{given, Gave}
 
 -- no room laid back before the buffer

@@ -2,10 +2,8 @@
 // finds out whether there is one, and only then, if there is room for all of it, it writes.
 ghost use Rattle.text.specs.Printing.{printed};
 ghost use Rattle.printing.specs.Printing.{Gave, given};
-use crate::lines::Place;
-use crate::lines::all_lines;
-
-mod lines;
+use lining::Place;
+use lining::all_lines;
 
 // The text's length; or nothing is written: the records have no text, or it is longer than the buffer.
 pub enum Printed {

@@ -1,7 +1,7 @@
 -- `print` meets its contract: what was measured is written if there is room for it. Assumes nothing.
 use native.Mathlib.Omega.{arith}
 use borrow.Author.Needs.{needs}
-use Rattle.printing.proofs.LaidLaws.{laid-end}
+use Rattle.lining.proofs.LaidLaws.{laid-end}
 use Rattle.printing.proofs.PrintLaws.{none-back, gave-none, gave-short, gave-text}
 use Rattle.printing.proofs.print.Statement.{statement}
 use Rattle.printing.proofs.print.Tie as tie

@@ -6,10 +6,10 @@ use lib.ListN.{getD}
 use Rattle.policy.proofs.NumberLaws.{number-byte}
 use Rattle.phrasing.specs.Meant.{sortOf, Means}
 use Rattle.phrasing.proofs.FieldLaws.{size-least}
-use Rattle.printing.proofs.LaidLaws.{laid-text, laid-none, laid-as, record-told, record-untold}
+use Rattle.lining.proofs.LaidLaws.{laid-text, laid-none, laid-as, record-told, record-untold}
 use borrow.Author.Needs.{needs}
-use Rattle.printing.proofs.lines.record_line.Statement.{statement}
-use Rattle.printing.proofs.lines.record_line.Tie as tie
+use Rattle.lining.proofs.record_line.Statement.{statement}
+use Rattle.lining.proofs.record_line.Tie as tie
 
 byte-requires : tie.Need-byte-requires
 byte-requires c κs = omega (arith, c .before .before .pre, size-least (sortOf (c .before .before .args .sort)))

@@ -9,10 +9,10 @@ use Rattle.text.specs.Printing.{argument, arguments}
 use Rattle.phrasing.specs.declared.forms.Slot.{Slot}
 use Rattle.phrasing.specs.Meant.{sortOf, slotOf}
 use Rattle.spelling.proofs.AddedLaws.{nothing, joined, named}
-use Rattle.printing.proofs.LaidLaws.{argument-one}
+use Rattle.lining.proofs.LaidLaws.{argument-one}
 use borrow.Author.Needs.{needs}
-use Rattle.printing.proofs.lines.argument.Statement.{statement}
-use Rattle.printing.proofs.lines.argument.Tie as tie
+use Rattle.lining.proofs.argument.Statement.{statement}
+use Rattle.lining.proofs.argument.Tie as tie
 
 returns : tie.Need-returns
 unfolding slotOf place argument

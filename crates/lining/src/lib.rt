@@ -6,7 +6,7 @@ ghost use Rattle.text.specs.Forms.{node, size, fieldsIn};
 ghost use Rattle.text.specs.Printing.{both, arguments, indent, remark, countIn, recordText, stepsText, printed};
 ghost use Rattle.spelling.specs.Added.{Added};
 ghost use Rattle.phrasing.specs.Meant.{sortOf, slotOf, slotsOf};
-ghost use Rattle.printing.specs.Laid.{lineAs, Laid};
+ghost use Rattle.lining.specs.Laid.{lineAs, Laid};
 use actions::ActionSet;
 use phrasing::fields::counted;
 use phrasing::fields::field;

@@ -4,10 +4,10 @@ use Prim.Native.Nat.{ℕ}
 use native.Mathlib.Omega.{arith}
 use Rattle.text.specs.Printing.{stepsText}
 use Rattle.phrasing.specs.Meant.{sortOf}
-use Rattle.printing.proofs.LaidLaws.{laid-end, laid-as, laid-both, laid-first}
+use Rattle.lining.proofs.LaidLaws.{laid-end, laid-as, laid-both, laid-first}
 use borrow.Author.Needs.{needs}
-use Rattle.printing.proofs.lines.node_lines.Statement.{statement}
-use Rattle.printing.proofs.lines.node_lines.Tie as tie
+use Rattle.lining.proofs.node_lines.Statement.{statement}
+use Rattle.lining.proofs.node_lines.Tie as tie
 
 record-line-requires : tie.Need-record-line-requires
 unfolding sortOf

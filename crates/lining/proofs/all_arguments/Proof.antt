@@ -1,9 +1,9 @@
 -- `all_arguments` meets its contract. Assumes nothing.
 use Rattle.spelling.proofs.AddedLaws.{joined, named}
-use Rattle.printing.proofs.LaidLaws.{arguments-three}
+use Rattle.lining.proofs.LaidLaws.{arguments-three}
 use borrow.Author.Needs.{needs}
-use Rattle.printing.proofs.lines.all_arguments.Statement.{statement}
-use Rattle.printing.proofs.lines.all_arguments.Tie as tie
+use Rattle.lining.proofs.all_arguments.Statement.{statement}
+use Rattle.lining.proofs.all_arguments.Tie as tie
 
 returns : tie.Need-returns
 returns c = named (joined (c .before .before .before .before .before .before .before .before .before .before .argument .ensures) (joined (c .before .before .before .before .before .before .argument2 .ensures) (c .before .before .argument3 .ensures))) (arguments-three (c .before .before .before .before .before .before .before .before .before .before .before .before .before .before .args .form) _)

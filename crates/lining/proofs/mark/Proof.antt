@@ -6,8 +6,8 @@ use Rattle.phrasing.specs.declared.forms.Sort.{Sort}
 use Rattle.phrasing.specs.Meant.{sortOf}
 use Rattle.spelling.proofs.AddedLaws.{named}
 use borrow.Author.Needs.{needs}
-use Rattle.printing.proofs.lines.mark.Statement.{statement}
-use Rattle.printing.proofs.lines.mark.Tie as tie
+use Rattle.lining.proofs.mark.Statement.{statement}
+use Rattle.lining.proofs.mark.Tie as tie
 
 returns : tie.Need-returns
 unfolding sortOf remark ascii

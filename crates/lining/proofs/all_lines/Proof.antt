@@ -7,13 +7,13 @@ use lib.ListN.{length, drop, length-take, length-drop}
 use Rattle.policy.specs.Bytes.{Bytes}
 use Rattle.text.specs.Forms.{size}
 use Rattle.text.specs.Printing.{nodesText, printed}
-use Rattle.printing.specs.declared.lines.Place.{Place}
+use Rattle.lining.specs.declared.Place.{Place}
 use Rattle.phrasing.specs.Meant.{sortOf}
-use Rattle.printing.specs.Laid.{Laid}
+use Rattle.lining.specs.Laid.{Laid}
 use Rattle.spelling.proofs.AddedLaws.{nothing}
-use Rattle.printing.proofs.LaidLaws.{laid-text, laid-none, laid-end, laid-as, laid-both, laid-first, nodes-next, nodes-short, nodes-left, steps-left, none-left}
-use Rattle.printing.proofs.lines.all_lines.Statement.{statement}
-use Rattle.printing.proofs.lines.all_lines.Tie as tie
+use Rattle.lining.proofs.LaidLaws.{laid-text, laid-none, laid-end, laid-as, laid-both, laid-first, nodes-next, nodes-short, nodes-left, steps-left, none-left}
+use Rattle.lining.proofs.all_lines.Statement.{statement}
+use Rattle.lining.proofs.all_lines.Tie as tie
 
 abbrev Inv-loop : tie.InvT-loop
 Inv-loop out₀ nodes steps count end₀ first₀ i₀ out end first i =

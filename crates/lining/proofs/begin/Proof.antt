@@ -6,8 +6,8 @@ use Rattle.phrasing.specs.declared.forms.Sort.{Sort}
 use Rattle.phrasing.specs.Meant.{sortOf}
 use Rattle.spelling.proofs.AddedLaws.{nothing, named}
 use borrow.Author.Needs.{needs}
-use Rattle.printing.proofs.lines.begin.Statement.{statement}
-use Rattle.printing.proofs.lines.begin.Tie as tie
+use Rattle.lining.proofs.begin.Statement.{statement}
+use Rattle.lining.proofs.begin.Tie as tie
 
 returns : tie.Need-returns
 unfolding sortOf indent ascii

@@ -1,11 +1,11 @@
 -- `line` meets its contract. Assumes nothing.
 use mathlib.Core.Path.{sym}
 use lib.Seq.{length-take-le}
-use Rattle.printing.specs.Laid.{lineAs}
+use Rattle.lining.specs.Laid.{lineAs}
 use Rattle.spelling.proofs.AddedLaws.{joined}
 use borrow.Author.Needs.{needs}
-use Rattle.printing.proofs.lines.line.Statement.{statement}
-use Rattle.printing.proofs.lines.line.Tie as tie
+use Rattle.lining.proofs.line.Statement.{statement}
+use Rattle.lining.proofs.line.Tie as tie
 
 slice-aggregate-append : tie.Need-slice-aggregate-append
 slice-aggregate-append c = let s = c .before .before .before .before .before .before .before .before .before in sym (length-take-le (s .args .form .length) (s .args .form .name) (s .pre .1))

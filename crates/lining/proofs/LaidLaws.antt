@@ -17,12 +17,12 @@ use Rattle.text.specs.Printing.{Print, text, noText, both, arguments, argument,
 use Rattle.text.proofs.WordLaws.{same-eq}
 use Rattle.text.proofs.RecordLaws.{record-size}
 use Rattle.phrasing.specs.declared.forms.Form as code
-use Rattle.printing.specs.declared.lines.Place.{Place}
-use Rattle.printing.specs.declared.lines.Place.the-variants.{Ends, NoText}
+use Rattle.lining.specs.declared.Place.{Place}
+use Rattle.lining.specs.declared.Place.the-variants.{Ends, NoText}
 use Rattle.spelling.specs.Added.{Added}
 use Rattle.phrasing.specs.Meant.{slotOf, slotsOf, Means}
 use Rattle.phrasing.specs.Whole.{saysOf}
-use Rattle.printing.specs.Laid.{lineAs, laid, Laid}
+use Rattle.lining.specs.Laid.{lineAs, laid, Laid}
 use Rattle.spelling.proofs.AddedLaws.{joined}
 use Rattle.phrasing.proofs.FormLaws.{found, unfound}
 

@@ -6,8 +6,8 @@ use Rattle.text.specs.Words.{newline}
 use Rattle.text.specs.Numerals.{decimal}
 use Rattle.text.specs.Forms.{Sort, Fields, Slot}
 use Rattle.text.specs.Printing.{Print, text, noText, arguments, indent, remark}
-use Rattle.printing.specs.declared.lines.Place.{Place}
-use Rattle.printing.specs.declared.lines.Place.the-variants.{Ends, NoText}
+use Rattle.lining.specs.declared.Place.{Place}
+use Rattle.lining.specs.declared.Place.the-variants.{Ends, NoText}
 use Rattle.spelling.specs.Added.{Added}
 
 -- a record's line, by its first word and what it says
