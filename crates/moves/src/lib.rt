@@ -259,7 +259,7 @@ fn back_or_over(status: u8) -> Fed
     Fed::Over(false)
 }
 
-// The same, its phase after the verdict at its end: the left side goes on, unless the node is decided.
+// Sequential, the right side's turn on an insert, its phase after the verdict at its end: the left side goes on, unless the node is decided.
 pub fn finish(policy: &[u8], state: &mut [u8], work: &mut [u8], node: usize) -> Fed
     requires { ⌜ Sided (now policy) (now state) (now work) node ⌝ }
     ensures { λ r. ⌜ Finished (joinAt (now (policy .entry)) node) node (rightAt (now (policy .entry)) node) (view (now (state .entry)) (now (work .entry))) (view (now (state .exit)) (now (work .exit))) r ⌝ }
