@@ -9,7 +9,7 @@ use mathlib.Core.Bool.{Bool, true, false, _&&_, _||_, not}
 use mathlib.Core.List.{List, [], _∷_, map}
 use lib.Dec.{T, eqb, eqb→eq, eqb-refl, ltb, ltb→lt}
 use lib.ListN.{length, getD, drop}
-use Rattle.actions.proofs.Tests.{yes-of, and-left, and-right, or-cases, bool-cases, no-of, not-not, or-false-left, or-false-right}
+use Rattle.actions.proofs.Tests.{yes-of, and-left, and-right, or-left, or-right, or-cases, bool-cases, no-of, not-not, or-false-left, or-false-right}
 use Rattle.policy.proofs.ListLaws.{everyAt-from-0}
 use Rattle.policy.proofs.NodeLaws.{noN, nodes-length, node-of}
 use Rattle.policy.specs.Bytes.{Bytes}
@@ -380,3 +380,109 @@ tree-top file = ap (λ (n : ℕ). grown n (places file) 0) (omega arith)
 pub number-at : (file : Bytes) (i : ℕ) → numberOf (treeAt file i) ≡ i
 unfolding treeAt numberOf
 number-at file i = grown-is (places file) (λ k t. numberOf t ≡ k) (λ k. refl) (λ k. refl) (λ k e. refl) (λ w j k l r e x y. refl) (nodeCount file - i) i
+
+-- ---- every node of the file is in the tree
+
+-- a child of some node
+record Parent (xs : List Node) (n : ℕ) : Type 0 where
+  place : ℕ
+  side : Side
+  kid : Kid xs place side n
+
+record Counted (n : ℕ) (xs : List Node) : Type 0 where
+  place : ℕ
+  counted : 1 ≤ kids n (getD xs place noN)
+
+first-or-rest : (n : ℕ) (x : Node) (xs : List Node) → 1 ≤ occurs n (children (x ∷ xs)) → (1 ≤ occurs n (children xs) → Counted n xs) → Counted n (x ∷ xs)
+first-or-rest n x xs h rest = go (kids n x) refl
+  where
+    go : (k : ℕ) → kids n x ≡ k → Counted n (x ∷ xs)
+    go zero e = let r = rest (omega (arith, h, kids-cons n x xs, e)) in record { place = suc (r .place); counted = r .counted }
+    go (suc k) e = record { place = 0; counted = omega (arith, e) }
+
+some-counted : (n : ℕ) (xs : List Node) → 1 ≤ occurs n (children xs) → Counted n xs
+unfolding children occurs
+some-counted n [] h = absurd (omega (arith, h))
+some-counted n (x ∷ xs) h = first-or-rest n x xs h (λ k. some-counted n xs k)
+
+counted-kid : (n : ℕ) (xs : List Node) (p : ℕ) → 1 ≤ kids n (getD xs p noN) → Parent xs n
+unfolding kids children occurs child one
+counted-kid n xs p h = by (nodeKind (getD xs p noN .kind)) refl
+  where
+    pick : (w : Way) (j : Join) → nodeKind (getD xs p noN .kind) ≡ aPair w j → (b : Bool) → eqb (getD xs p noN .left) n ≡ b → (c : Bool) → eqb (getD xs p noN .right) n ≡ c
+        → Parent xs n
+    pick w j e true f c g =
+        record { place = p; side = on-left; kid = record { way = w; join = j; pair = e; is = eqb→eq (getD xs p noN .left) n (subst T (sym f) tt) } }
+    pick w j e false f true g =
+        record { place = p; side = on-right; kid = record { way = w; join = j; pair = e; is = eqb→eq (getD xs p noN .right) n (subst T (sym g) tt) } }
+    pick w j e false f false g = absurd (omega (arith, h, kids-pair n (getD xs p noN) w j e, ap one f, ap one g))
+
+    by : (k : NodeKind) → nodeKind (getD xs p noN .kind) ≡ k → Parent xs n
+    by aLeaf e = absurd (let z : kids n (getD xs p noN) ≡ 0 = rw (e, children) in omega (arith, h, z))
+    by aTrivial e = absurd (let z : kids n (getD xs p noN) ≡ 0 = rw (e, children) in omega (arith, h, z))
+    by anUnsatisfiable e = absurd (let z : kids n (getD xs p noN) ≡ 0 = rw (e, children) in omega (arith, h, z))
+    by noNode e = absurd (let z : kids n (getD xs p noN) ≡ 0 = rw (e, children) in omega (arith, h, z))
+    by (aPair w j) e = pick w j e (eqb (getD xs p noN .left) n) refl (eqb (getD xs p noN .right) n) refl
+
+holds-self : (t : Tree) → T (holds t (numberOf t))
+unfolding holds numberOf
+holds-self (leaf i r c code) = eqb-refl i
+holds-self (trivial i) = eqb-refl i
+holds-self (unsatisfiable i) = eqb-refl i
+holds-self (node w j i l r) = or-left (eqb i i) (holds l i || holds r i) (eqb-refl i)
+
+module _ (file : Bytes) (five : broken5 file ≡ false) where
+  parent-of : (n : ℕ) → n < nodeCount file → (n ≡ 0 → ⊥) → Parent (nodes file) n
+  unfolding oneParent
+  parent-of n h d =
+      let l : n < length (nodes file) = omega (arith, h, nodes-length file) in
+      let c : occurs n (children (nodes file)) ≡ 1 =
+      ⊎-elim (λ z. absurd (d (eqb→eq n 0 z))) (λ u. eqb→eq (occurs n (children (nodes file))) 1 u)
+      (or-cases (eqb n 0) (eqb (occurs n (children (nodes file))) 1)
+      (everyAt-from-0 (λ i x. oneParent (nodes file) i) (nodes file) noN (all-once file five) n l)) in
+      let s = some-counted n (nodes file) (omega (arith, c)) in
+      counted-kid n (nodes file) (s .place) (s .counted)
+
+  -- what a child's tree holds, its parent's does
+  lift : (p n : ℕ) (s : Side) → Kid (nodes file) p s n → p < nodeCount file → (k : ℕ) → T (holds (treeAt file n) k) → T (holds (treeAt file p) k)
+  unfolding shaped holds child
+  lift p n s kd l k u =
+      let a : ℕ = nodeIn (places file) p .left in
+      let b : ℕ = nodeIn (places file) p .right in
+      let e : kindIn (places file) p ≡ aPair (kd .way) (kd .join) =
+      subst (λ (x : Node). nodeKind (x .kind) ≡ aPair (kd .way) (kd .join)) (sym (same-node file p)) (kd .pair) in
+      let z : treeAt file p ≡ node (kd .way) (kd .join) p (treeAt file a) (treeAt file b) =
+      tree-at file five p l ∙ ap (λ (x : NodeKind). shaped x p (placeIn (places file) p) (treeAt file a) (treeAt file b)) e in
+      subst (λ (t : Tree). T (holds t k)) (sym z) (or-right (eqb p k) (holds (treeAt file a) k || holds (treeAt file b) k) (on s kd))
+    where
+      on : (s : Side) → Kid (nodes file) p s n → T (holds (treeAt file (nodeIn (places file) p .left)) k || holds (treeAt file (nodeIn (places file) p .right)) k)
+      on on-left kd =
+          or-left (holds (treeAt file (nodeIn (places file) p .left)) k) (holds (treeAt file (nodeIn (places file) p .right)) k)
+          (subst (λ (x : ℕ). T (holds (treeAt file x) k)) (sym (ap (λ (x : Node). x .left) (same-node file p) ∙ kd .is)) u)
+      on on-right kd =
+          or-right (holds (treeAt file (nodeIn (places file) p .left)) k) (holds (treeAt file (nodeIn (places file) p .right)) k)
+          (subst (λ (x : ℕ). T (holds (treeAt file x) k)) (sym (ap (λ (x : Node). x .right) (same-node file p) ∙ kd .is)) u)
+
+  Within : ℕ → Type 0
+  Within i = (k : ℕ) → T (holds (treeAt file i) k) → T (holds (tree file) k)
+
+  within-by : (i : ℕ) → i < nodeCount file → ((p : ℕ) → p < i → Within p) → Within i
+  unfolding Within
+  within-by i h rec = go (eqb i 0) refl
+    where
+      go : (b : Bool) → eqb i 0 ≡ b → (k : ℕ) → T (holds (treeAt file i) k) → T (holds (tree file) k)
+      go true e k u =
+          subst (λ (t : Tree). T (holds t k)) (sym (tree-top file)) (subst (λ (x : ℕ). T (holds (treeAt file x) k)) (eqb→eq i 0 (subst T (sym e) tt)) u)
+      go false e k u =
+          let q = parent-of i h (λ z. subst T e (subst (λ (x : ℕ). T (eqb i x)) z (eqb-refl i))) in
+          let o : q .place < i = ordered file five i (q .place) (q .side) (q .kid) in
+          rec (q .place) o k (lift (q .place) i (q .side) (q .kid) (omega (arith, o, h)) k u)
+
+  within : (m i : ℕ) → i < m → i < nodeCount file → Within i
+  within zero i h l = absurd (omega (arith, h))
+  within (suc m) i h l = within-by i l (λ p o. within m p (omega (arith, o, h)) (omega (arith, o, l)))
+
+  -- every node's number is in the tree
+  pub all-held : (k : ℕ) → k < nodeCount file → T (holds (tree file) k)
+  unfolding Within
+  all-held k h = within (suc k) k (omega arith) h k (subst (λ (x : ℕ). T (holds (treeAt file k) x)) (number-at file k) (holds-self (treeAt file k)))
