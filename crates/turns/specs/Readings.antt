@@ -60,12 +60,17 @@ unfoldable pub A₃ : Part
 unfolding built
 A₃ = leafOf (3 ∷ []) 0 (next 1 3 ∷ ok 2 ∷ inserts 5 0 ∷ end ∷ [])
 
+-- inserts 5 and then halts on 3
+unfoldable pub X₃ : Part
+unfolding built
+X₃ = leafOf (3 ∷ []) 0 (next 1 3 ∷ inserts 5 2 ∷ halt ∷ end ∷ [])
+
 -- a file of which only the calls are told
 unfoldable pub runs : Bytes → ℕ → ℕ → ℕ → List Request → List Heard → Case
 runs file size r e qs heard = record { policy = file; requests = qs; told = record { size = size; answer = passes r e; heard = heard } }
 
 unfoldable pub readings : List Case
-unfolding T₄ S₄ G₁ E₃ E₄ H₃ A₄ B₄ A₃ runs says acc sup ins built
+unfolding T₄ S₄ G₁ E₃ E₄ H₃ A₄ B₄ A₃ X₃ runs says acc sup ins built
 readings =
     -- Inserts are streamed: the left waits, and counts as running until its part is over.
     runs (pair 5 T₄ top) 114 16 72 (opening ∷ close ∷ []) (says running [] ∷ says ended (ins 3 ∷ ins 6 ∷ []) ∷ [])
@@ -76,6 +81,12 @@ readings =
     ∷ runs (pair 7 S₄ E₃) 138 24 24 (opening ∷ offer 4 ∷ []) (says running [] ∷ says endedRight (ins 3 ∷ acc 4 ∷ []) ∷ [])
     -- "where the right halts instead, nothing is emitted in kind 5, but in kind 7 the insert is."
     ∷ runs (pair 7 T₄ H₃) 150 24 72 (opening ∷ close ∷ []) (says running [] ∷ says endedLeft (ins 3 ∷ ins 6 ∷ []) ∷ [])
+    -- "Accepted, it is emitted between that turn's phases"; an insert on which the right halts goes out, in kind 7, after the right's own.
+    ∷ runs (pair 5 T₄ A₃) 162 24 104 (opening ∷ close ∷ []) (says running [] ∷ says ended (ins 3 ∷ ins 5 ∷ ins 6 ∷ []) ∷ [])
+    ∷ runs (pair 7 T₄ X₃) 162 24 104 (opening ∷ close ∷ []) (says running [] ∷ says endedLeft (ins 5 ∷ ins 3 ∷ ins 6 ∷ []) ∷ [])
+    ∷ runs (pair 5 T₄ X₃) 162 24 104 (opening ∷ close ∷ []) (says running [] ∷ says halted (ins 5 ∷ []) ∷ [])
+    -- closing a halted root is answered: "closing 1–12"
+    ∷ runs (alone bottom) 22 0 0 (opening ∷ close ∷ []) (says halted [] ∷ says halted [] ∷ [])
     -- Inserts are given on in their order: F accepts only the first.
     ∷ runs (pair 5 T₄ F) 174 88 72 (opening ∷ close ∷ []) (says running [] ∷ says ended (ins 3 ∷ []) ∷ [])
     -- A leaf is not shown the actions that it inserted itself.
