@@ -7,3 +7,5 @@ pub mod Demand
 pub mod Premise
 pub mod ThirdDemand
 pub mod Worked
+pub mod Runs
+pub mod Completes

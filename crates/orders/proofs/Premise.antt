@@ -7,7 +7,9 @@ use Rattle.turns.specs.State.{State, leftOf, rightOf}
 use Rattle.turns.specs.Process.{Item, ran, lets, sups, accepts, suppresses, Out, Process, stop, does, both, outcome, trace, items}
 use Rattle.turns.specs.Turn.{Behaviour, closing, given, feed, sequentialWork}
 use Rattle.orders.specs.Orders.{clear, acts, onLeft, onRight, meet, Order, start, then}
-use Rattle.orders.specs.Demand.{noParallel, premise}
+use Prim.Native.Nat.{ℕ}
+use native.Mathlib.Omega.{arith}
+use Rattle.orders.specs.Demand.{noParallel, premise, OneOrder}
 use Rattle.orders.specs.Premise.{givenOn, closedWith, inserting, onlyFirst, left, right, policy, afterOpening}
 use Rattle.orders.specs.Premise.{closingItems, leftSideFirst, rightSideFirst, leftPart, closingEvents, PremiseNeeded}
 
@@ -75,6 +77,25 @@ right-first =
     then (onRight acts tt) (then (onRight acts tt) (then (onRight acts tt) (then (onRight acts tt)
     (then (onLeft acts tt) (then (onLeft acts tt) (then (onLeft acts tt) (then (onLeft acts tt) (then meet start))))))))
 
+leaf-of : Item → ℕ
+leaf-of (ran i o) = i
+leaf-of (lets b) = 0
+leaf-of (sups a) = 0
+leaf-of (accepts a) = 0
+leaf-of (suppresses a) = 0
+
+first-leaf : List Item → ℕ
+first-leaf [] = 0
+first-leaf (i ∷ xs) = leaf-of i
+
+more-orders : ¬ OneOrder leftPart
+unfolding worked OneOrder first-leaf leaf-of
+more-orders h =
+    let a : leftSideFirst ≡ items (trace leftPart) = h leftSideFirst 9 (outcome leftPart) left-first in
+    let b : rightSideFirst ≡ items (trace leftPart) = h rightSideFirst 9 (outcome leftPart) right-first in
+    let c : first-leaf leftSideFirst ≡ first-leaf rightSideFirst = ap first-leaf (a ∙ sym b) in
+    omega (arith, c)
+
 pub premise-needed : PremiseNeeded
 unfolding worked
 premise-needed = record {
@@ -85,6 +106,7 @@ premise-needed = record {
   unmet = refl;
   left-first = left-first;
   right-first = right-first;
+  more-orders = more-orders;
   rules-give = refl;
   lets-3 = refl;
   lets-6 = refl;

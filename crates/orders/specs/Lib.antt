@@ -2,3 +2,4 @@ pub mod Orders
 pub mod Demand
 pub mod Premise
 pub mod Worked
+pub mod Runs

@@ -19,7 +19,7 @@ use Rattle.turns.specs.Events.{Event, inserted, events}
 use Rattle.turns.specs.Saved.{stateSize, load}
 use Rattle.turns.specs.Entries.{eventRoom, opens}
 use Rattle.orders.specs.Orders.{Order}
-use Rattle.orders.specs.Demand.{premise}
+use Rattle.orders.specs.Demand.{premise, OneOrder}
 
 -- ---- giving on what the left part did, in an order of its own
 
@@ -104,6 +104,8 @@ pub record PremiseNeeded : Type 0 where
   -- Both are finished orders of the left part's closing, and end alike.
   pub left-first : Order leftPart leftSideFirst 9 (stop (outcome leftPart))
   pub right-first : Order leftPart rightSideFirst 9 (stop (outcome leftPart))
+  -- So the left part has more than one order.
+  pub more-orders : ¬ OneOrder leftPart
   -- Closing gives what the first of them gives. Given on in the one order, insert 3 is let out and no other; in the other, insert 6.
   pub rules-give : events (items (trace (call (tree policy) close afterOpening))) ≡ closingEvents leftSideFirst
   pub lets-3 : closingEvents leftSideFirst ≡ inserted 3 ∷ []

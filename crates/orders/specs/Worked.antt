@@ -33,6 +33,10 @@ premises =
     ∷ record { policy = fileOf (pairOf 5 1 4 ∷ pairOf 7 2 3 ∷ «V» ∷ W ∷ top ∷ []); keeps = true }
     -- a parallel node in the right part is free
     ∷ record { policy = fileOf (pairOf 5 1 2 ∷ W ∷ pairOf 4 3 4 ∷ «V» ∷ V′ ∷ []); keeps = true }
+    -- parallel nodes beneath a parallel node, on either side; and a sequential one there
+    ∷ record { policy = fileOf (pairOf 4 1 4 ∷ pairOf 6 2 3 ∷ top ∷ bottom ∷ L ∷ []); keeps = true }
+    ∷ record { policy = fileOf (pairOf 6 1 2 ∷ L ∷ pairOf 4 3 4 ∷ top ∷ bottom ∷ []); keeps = true }
+    ∷ record { policy = fileOf (pairOf 6 1 4 ∷ pairOf 5 2 3 ∷ top ∷ bottom ∷ L ∷ []); keeps = true }
     -- in the left part it is not, however deep: on either side of a sequential node there, or beneath a parallel root
     ∷ record { policy = fileOf (pairOf 5 1 4 ∷ pairOf 4 2 3 ∷ «V» ∷ V′ ∷ F ∷ []); keeps = false }
     ∷ record { policy = fileOf (pairOf 5 1 6 ∷ pairOf 5 2 5 ∷ pairOf 6 3 4 ∷ top ∷ top ∷ top ∷ F ∷ []); keeps = false }
