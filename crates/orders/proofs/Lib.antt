@@ -9,3 +9,4 @@ pub mod ThirdDemand
 pub mod Worked
 pub mod Runs
 pub mod Completes
+pub mod RightFirst

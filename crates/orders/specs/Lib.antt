@@ -3,3 +3,4 @@ pub mod Demand
 pub mod Premise
 pub mod Worked
 pub mod Runs
+pub mod RightFirst

@@ -1,0 +1,62 @@
+-- "P11 V parallel-and V′, closing: inserted 3, inserted 6.", closed right side first: a run whose order is not demand 2's, and what the
+-- third demand says of it. Assumes nothing.
+use Prim.Native.Nat.{ℕ}
+use mathlib.Core.Path.{_≡_}
+use mathlib.Core.List.{List, [], _∷_, _++_}
+use lib.ListN.{replicate}
+use Rattle.policy.specs.Bytes.{Bytes}
+use Rattle.policy.specs.Parts.{pair, «V», V′, built}
+use Rattle.policy.specs.Tree.{tree}
+use Rattle.turns.specs.Status.{running, ended}
+use Rattle.turns.specs.Process.{Item, Process, stop, outcome, trace, items}
+use Rattle.turns.specs.Turn.{Request, opening, close}
+use Rattle.turns.specs.Events.{inserted, events, stepsRun}
+use Rattle.turns.specs.Saved.{stateSize, saved}
+use Rattle.turns.specs.Entries.{Reply, answers, eventRoom, opens}
+use Rattle.orders.specs.Orders.{Order, Told, only, ofLeaf, isVerdict, insertsOf}
+use Rattle.orders.specs.Premise.{closingItems}
+use Rattle.orders.specs.Runs.{asked, Runs, replies, lastState, Ends}
+
+unfoldable pub P11 : Bytes
+unfolding built
+P11 = pair 4 «V» V′
+
+unfoldable pub room : Bytes
+room = replicate eventRoom 0
+
+unfoldable pub unopened : Bytes
+unopened = replicate stateSize 0
+
+unfoldable pub closesIt : Process
+unfolding P11 unopened room asked
+closesIt = asked P11 close (opens P11 unopened room .state)
+
+-- all that the right leaf does, then all that the left leaf does
+unfoldable pub rightFirst : List Item
+unfolding closingItems
+rightFirst = closingItems 2 6 ++ closingItems 1 3
+
+-- opening, and then closing so
+unfoldable pub requests : List Request
+requests = opening ∷ close ∷ []
+
+unfoldable pub gave : List Reply
+gave = answers 0 running ∷ answers 2 ended ∷ []
+
+pub record RightFirst : Type 0 where
+  -- It is an order of that closing, and not demand 2's: insert 6 comes out before insert 3.
+  pub order : Order closesIt rightFirst 9 (stop (outcome closesIt))
+  pub seen : events rightFirst ≡ inserted 6 ∷ inserted 3 ∷ []
+  pub rules-give : events (items (trace closesIt)) ≡ inserted 3 ∷ inserted 6 ∷ []
+  pub run : Runs P11 room unopened requests gave (saved (tree P11) (outcome closesIt .state))
+  -- The third demand, of this run: the replies and the state are demand 2's;
+  pub replied : gave ≡ replies P11 room unopened requests
+  pub left : saved (tree P11) (outcome closesIt .state) ≡ lastState P11 room unopened requests
+  -- the events are demand 2's, interleaved; there is no verdict; each leaf runs its steps and makes its insert.
+  pub told : Told (trace closesIt) (inserted 6 ∷ inserted 3 ∷ [])
+  pub verdict : only isVerdict rightFirst ≡ []
+  pub leaves : (i : ℕ) → only (ofLeaf i) rightFirst ≡ only (ofLeaf i) (items (trace closesIt))
+  pub inserts : (i : ℕ) → insertsOf (tree P11) i rightFirst ≡ insertsOf (tree P11) i (items (trace closesIt))
+  pub steps : stepsRun rightFirst ≡ 6
+  -- Wherever a closing has come, by whatever moves, it is not stuck, and can go on to its end.
+  pub completes : {xs : List Item} {n : ℕ} {p : Process} → Order closesIt xs n p → Ends p
