@@ -7,19 +7,18 @@ use mathlib.Core.List.{List, [], _∷_}
 use lib.ListN.{length, set}
 use Rattle.actions.specs.Sets.{Action}
 use Rattle.policy.specs.Bytes.{Bytes, number, put}
-use Rattle.policy.specs.Records.{mostNodes}
 use Rattle.policy.specs.Tree.{Tree, leaf, trivial, unsatisfiable, node, numberOf, tree}
-use Rattle.policy.proofs.ByteLaws.{put-sets}
-use Rattle.lawful.proofs.LawfulTree.{lawful, numbers-below-nodes}
-use Rattle.rules.proofs.Numbers.{tree-top, number-at}
+use Rattle.policy.proofs.ByteLaws.{put-none, put-sets}
+use Rattle.lawful.proofs.LawfulTree.{lawful}
+use Rattle.rules.proofs.Numbers.{root-number}
 use Rattle.rules.specs.Passed.{Passed}
-use Rattle.rules.proofs.Rows.{counts-fit}
 use Rattle.turns.specs.Status.{Status, statusNumber, isHalted}
 use Rattle.turns.specs.State.{State, status}
 use Rattle.turns.specs.Turn.{verdict}
 use Rattle.turns.specs.Events.{Event, eventOf, eventBytes}
 use Rattle.turns.specs.Saved.{statusAt, cell, saved}
-use Rattle.conduct.proofs.Cells.{Below, cellAt, Kept, lawful-apart, status-is, saved-length, saved-kept}
+use Rattle.conduct.proofs.Cells.{cellAt, Kept, lawful-apart, status-is, saved-length, saved-kept}
+use Rattle.conduct.proofs.Lasting.{in-cells}
 use Rattle.answering.specs.declared.Answer.the-variants.{Answered}
 use Rattle.answering.specs.Ends.{verdicts, Added, Ended}
 
@@ -36,7 +35,7 @@ said u room n a b h e =
 
 pub no-verdict : (s : Status) (u : Bool) (a : Action) (room : Bytes) (n : ℕ) → isHalted s ≡ true → 2 * n + 2 ≤ length room → Added (verdicts s u a) room room n n
 unfolding verdicts eventBytes
-no-verdict s u a room n e h = rw (e, verdicts) (record { told = sym (put-sets room (2 * n) [] (omega arith)); counted = omega arith })
+no-verdict s u a room n e h = rw (e, verdicts) (record { told = sym (put-none room (2 * n)); counted = omega arith })
 
 verdict-one : (u : Bool) (a : Action) → length (eventOf (verdict u a)) ≡ 1
 unfolding eventOf verdict
@@ -56,11 +55,6 @@ few-verdicts s u a = go (isHalted s)
     go true = omega arith
     go false = omega (arith, verdict-one u a)
 
--- ---- the root
-
-pub root-number : (policy : Bytes) → numberOf (tree policy) ≡ 0
-root-number policy = ap numberOf (tree-top policy) ∙ number-at policy 0
-
 -- ---- the end of a call
 
 kept-root : (t : Tree) (s : State) (bs : Bytes) → Kept t s bs → cellAt bs (numberOf t) ≡ cell s
@@ -71,16 +65,13 @@ kept-root (unsatisfiable i) s bs k = k
 kept-root (node w j i l r) s bs k = k .0
 
 module _ {policy : Bytes} (ok : Passed policy) where
-  below : Below mostNodes (tree policy)
-  below i h = let k = numbers-below-nodes policy ok i h in omega (arith, counts-fit policy (ok .kept3) .few-nodes)
-
   -- the saved state's first byte is the root's status
   saved-root : (s : State) → statusAt (saved (tree policy) s) 0 ≡ statusNumber (status s)
   saved-root s =
       let t : Tree = tree policy in
-      status-is (saved t s) 0 (saved-length t below s) (omega arith) s
+      status-is (saved t s) 0 (saved-length t (in-cells policy ok) s) (omega arith) s
       (subst (λ (i : ℕ). cellAt (saved t s) i ≡ cell s) (root-number policy)
-      (kept-root t s (saved t s) (saved-kept t (lawful-apart t (lawful policy ok)) below s)))
+      (kept-root t s (saved t s) (saved-kept t (lawful-apart t (lawful policy ok)) (in-cells policy ok) s)))
 
   pub ended : {s : State} (n : ℕ) {b : ℕ} {bytes : Bytes} → bytes ≡ saved (tree policy) s → b ≡ number bytes 0 1 → Ended (tree policy) s n (Answered n b) bytes
   unfolding statusAt

@@ -26,7 +26,7 @@ use Rattle.turns.specs.Turn.{Request, opening, offer, close, call}
 use Rattle.turns.specs.Saved.{stateSize, load, saved, fits}
 use Rattle.turns.specs.Entries.{Reply, answers, refuses, carriedOut, Result, entry}
 use Rattle.turns.proofs.Rest.{Rest, Over}
-use Rattle.conduct.proofs.Cells.{Below, Sized, lawful-apart, saved-length, load-saved}
+use Rattle.conduct.proofs.Cells.{Below, below-more, Sized, lawful-apart, saved-length, load-saved}
 use Rattle.conduct.proofs.Fits.{fits-load, fits-saved}
 use Rattle.turns.proofs.States.{rest-decided}
 use Rattle.turns.proofs.Walk.{call-fine, close-over, opening-fine}
@@ -46,6 +46,10 @@ sized-leaves (trivial i) h = tt
 sized-leaves (unsatisfiable i) h = tt
 sized-leaves (node w j i l r) h = (sized-leaves l (h .0), sized-leaves r (h .1))
 
+-- every node of a passed file has a cell
+pub in-cells : (file : Bytes) → Passed file → Below mostNodes (tree file)
+in-cells file ok = below-more (nodeCount file) (counts-fit file (ok .kept3) .few-nodes) (tree file) (numbers-below-nodes file ok)
+
 module _ (file : Bytes) (small : Small file) (ok : Passed file) where
   start-less : (i : ℕ) (b : Bool) → ltb i (nodeCount file) ≡ b → getD (nodes file) i noN .start < 256 ^ 4
   unfolding nodeAt nodePlace rowPlace
@@ -64,19 +68,16 @@ module _ (file : Bytes) (small : Small file) (ok : Passed file) where
     subst (λ (x : Node). x .start < 256 ^ 4) (sym (same-node file i)) (start-less i (ltb i (nodeCount file)) refl),
   )) (nodeCount file) 0)
 
-  below : Below mostNodes (tree file)
-  below i h = let k = numbers-below-nodes file ok i h in omega (arith, counts-fit file (ok .kept3) .few-nodes)
-
   -- a state at rest is saved so that it fits, and reads back
   pub saved-fits : (s : State) → Rest (tree file) s → T (fits file (saved (tree file) s))
   saved-fits s h =
       fits-saved file (counts-fit file (ok .kept3) .few-nodes) (numbers-below-nodes file ok) (lawful-apart (tree file) (lawful file ok)) sized s h
 
   pub reads-back : (s : State) → Rest (tree file) s → load (tree file) (saved (tree file) s) ≡ s
-  reads-back s h = load-saved (tree file) (lawful-apart (tree file) (lawful file ok)) below sized s h
+  reads-back s h = load-saved (tree file) (lawful-apart (tree file) (lawful file ok)) (in-cells file ok) sized s h
 
   pub saved-size : (s : State) → length (saved (tree file) s) ≡ stateSize
-  saved-size s = saved-length (tree file) below s
+  saved-size s = saved-length (tree file) (in-cells file ok) s
 
 -- ---- the calls
 

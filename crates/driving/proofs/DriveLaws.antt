@@ -6,10 +6,11 @@ use mathlib.Core.Path.{_≡_, refl, sym, ap, ap₂, _∙_, subst}
 use mathlib.Core.Bool.{Bool}
 use mathlib.Core.List.{List, [], _∷_, _++_, map, append-assoc}
 use mathlib.Core.Logic.{⊎-elim}
-use lib.ListN.{length, take, drop, set, length-set, take-append-drop}
+use lib.ListN.{length, take, drop, set, length-set}
 use lib.Seq.{drop-set-lt}
 use Rattle.actions.specs.Sets.{Action}
 use Rattle.policy.specs.Bytes.{Bytes, put}
+use Rattle.policy.proofs.ByteLaws.{put-none}
 use Rattle.policy.specs.Tree.{Tree, numberOf, tree}
 use Rattle.rules.proofs.Numbers.{tree-top, number-at}
 use Rattle.policy.specs.Tree.{treeAt}
@@ -42,10 +43,6 @@ put-next bs i x xs h =
     ∙ ap (λ (r : Bytes). take i bs ++ (x ∷ (xs ++ r))) (sym (drop-set-lt (suc i + length xs) bs i x (omega arith)))
     ∙ sym (append-assoc (take i bs) (x ∷ []) (xs ++ drop (suc i + length xs) (set bs i x)))
     ∙ ap (λ (r : Bytes). r ++ (xs ++ drop (suc i + length xs) (set bs i x))) (sym (take-next bs i x h))
-
-put-none : (bs : Bytes) (i : ℕ) → put bs i [] ≡ bs
-unfolding put
-put-none bs i = let e : i + 0 ≡ i = omega arith in ap (λ (k : ℕ). take i bs ++ drop k bs) e ∙ take-append-drop i bs
 
 -- ---- what is left
 

@@ -8,7 +8,7 @@ use lib.ListN.{length, getD, length-append, length-map}
 use Rattle.actions.specs.Sets.{Action, ActionSet, has}
 use Rattle.policy.specs.Bytes.{Bytes, put}
 use Rattle.policy.specs.Tree.{Tree, regulated, tree}
-use Rattle.rules.proofs.Numbers.{tree-top}
+use Rattle.rules.proofs.Numbers.{tree-top, root-number}
 use Rattle.rules.specs.Passed.{Passed}
 use Rattle.turns.specs.Status.{Status, isRunning}
 use Rattle.turns.specs.State.{State, status}
@@ -22,7 +22,7 @@ use Rattle.driving.specs.Drives.{told, Drove}
 use Rattle.memory.proofs.Begin.{held-status}
 use Rattle.playing.specs.Played.{Played}
 use Rattle.answering.specs.Ends.{verdicts, Added}
-use Rattle.answering.proofs.EndLaws.{root-number, few-verdicts}
+use Rattle.answering.proofs.EndLaws.{few-verdicts}
 use Rattle.playing.proofs.DriveBounds.{phase-told, phase-ends, turn-told, unasked-told, phase-room, turn-room, steps-fit}
 use Rattle.playing.proofs.EventLaws.{events-append}
 

@@ -37,6 +37,10 @@ pub put-length : (bs : Bytes) (i : ℕ) (over : Bytes) → i + length over ≤ l
 unfolding put
 put-length bs i over h = simp (length-append, length-take, length-drop) (omega arith)
 
+pub put-none : (bs : Bytes) (i : ℕ) → put bs i [] ≡ bs
+unfolding put
+put-none bs i = let e : i + 0 ≡ i = omega arith in ap (λ (k : ℕ). take i bs ++ drop k bs) e ∙ take-append-drop i bs
+
 -- a part that ends where they begin, or before
 pub part-before : (bs : Bytes) (i : ℕ) (over : Bytes) (j size : ℕ) → i + length over ≤ length bs → j + size ≤ i
     → take size (drop j (put bs i over)) ≡ take size (drop j bs)
@@ -196,6 +200,13 @@ pub zeros-every : (n : ℕ) → T (every (λ b. eqb b 0) (replicate n zero))
 unfolding every
 zeros-every zero = tt
 zeros-every (suc n) = zeros-every n
+
+pub zeros-are : (bs : Bytes) → T (every (λ b. eqb b 0) bs) → bs ≡ replicate (length bs) zero
+unfolding every
+zeros-are [] h = refl
+zeros-are (b ∷ bs) h =
+    ap₂ {C = Bytes} (λ (x : ℕ) (xs : Bytes). x ∷ xs) (eqb→eq b 0 (and-left (eqb b 0) (every (λ x. eqb x 0) bs) h))
+    (zeros-are bs (and-right (eqb b 0) (every (λ x. eqb x 0) bs) h))
 
 spelt-zeros : (bs : Bytes) → T (every (λ b. eqb b 0) bs) → spelt 0 bs ≡ 0
 unfolding every

@@ -1,5 +1,5 @@
--- Rule 5, the tree rule: every node's number is in the tree once and below the number of nodes, the fuel of `tree` is enough, and one step
--- down the tree as the code reads the node's record. Assumes nothing.
+-- Rule 5, the tree rule: each number below the number of nodes stands in the tree exactly once (`all-held`, `distinct`), and no other number
+-- does (`numbers-below`); the fuel of `tree` is enough; one step down the tree as the code reads the node's record. Assumes nothing.
 use Prim.Native.Nat.{ℕ, zero, suc, _+_, _-_, _≤_, _<_}
 use native.Mathlib.Nat.{le-refl, zero-lt-suc}
 use native.Mathlib.Omega.{arith}
@@ -380,6 +380,9 @@ tree-top file = ap (λ (n : ℕ). grown n (places file) 0) (omega arith)
 pub number-at : (file : Bytes) (i : ℕ) → numberOf (treeAt file i) ≡ i
 unfolding treeAt numberOf
 number-at file i = grown-is (places file) (λ k t. numberOf t ≡ k) (λ k. refl) (λ k. refl) (λ k e. refl) (λ w j k l r e x y. refl) (nodeCount file - i) i
+
+pub root-number : (file : Bytes) → numberOf (tree file) ≡ 0
+root-number file = ap numberOf (tree-top file) ∙ number-at file 0
 
 -- ---- every node of the file is in the tree
 

@@ -7,12 +7,11 @@ use mathlib.Core.List.{[], _∷_, _++_}
 use lib.ListN.{length, getD, take, set, length-append}
 use lib.Seq.{sets, take-suc, take-length, length-take-le}
 use Rattle.policy.specs.Bytes.{Bytes, put}
-use Rattle.policy.proofs.ByteLaws.{put-sets, sets-append}
-use Rattle.transcribing.proofs.WrittenLaws.{put-nothing}
+use Rattle.policy.proofs.ByteLaws.{put-none, put-sets, sets-append}
 
 module _ (buffer : Bytes) (at : ℕ) (bytes : Bytes) (h : at + length bytes ≤ length buffer) where
   pub none-stored : buffer ≡ put buffer at (take 0 bytes)
-  none-stored = put-nothing buffer at (omega arith)
+  none-stored = sym (put-none buffer at)
 
   pub one-stored : (i : ℕ) → i < length bytes → set (put buffer at (take i bytes)) (at + i) (getD bytes i 0) ≡ put buffer at (take (i + 1) bytes)
   one-stored i l =

@@ -5,16 +5,11 @@ use mathlib.Core.Path.{_≡_, refl, sym, ap, ap₂, _∙_}
 use mathlib.Core.List.{List, [], _∷_, _++_}
 use lib.ListN.{length, length-append}
 use Rattle.policy.specs.Bytes.{Bytes, put}
-use Rattle.policy.proofs.ByteLaws.{put-sets, put-length, put-append}
+use Rattle.policy.proofs.ByteLaws.{put-none, put-length, put-append}
 use Rattle.text.specs.Forms.{Sort, node, step, size, Fields, recordOf}
 use Rattle.text.specs.Reading.{Line, nothing, unreadable, entry, Found, found, wrong, withNode, withStep, readFrom}
 use Rattle.text.proofs.RecordLaws.{record-size}
 use Rattle.transcribing.specs.Written.{leadIn, Buffers, written}
-
--- ---- nothing put
-
-pub put-nothing : (bs : Bytes) (i : ℕ) → i ≤ length bs → bs ≡ put bs i []
-put-nothing bs i h = sym (put-sets bs i [] (omega arith))
 
 -- ---- what a node or a step was put before
 
@@ -72,7 +67,7 @@ unfolding readFrom written size
 written-found [] room n k ns ss e i j N S a b =
     let p : [] ≡ ns = cc in
     let q : [] ≡ ss = cc in
-    ap₂ {C = Buffers} (λ (x y : Bytes). record { nodes = x; steps = y }) (put-nothing N (16 * i) (omega arith) ∙ ap (put N (16 * i)) p) (put-nothing S (12 * j) (omega arith) ∙ ap (put S (12 * j)) q)
+    ap₂ {C = Buffers} (λ (x y : Bytes). record { nodes = x; steps = y }) (sym (put-none N (16 * i)) ∙ ap (put N (16 * i)) p) (sym (put-none S (12 * j)) ∙ ap (put S (12 * j)) q)
 written-found (nothing ∷ ls) room n k ns ss e i j N S a b = written-found ls room (suc n) k ns ss e i j N S a b
 written-found (unreadable ∷ ls) room n k ns ss e i j N S a b = let z : _≡_ {A = ℕ} 0 1 = cc in absurd (omega arith)
 written-found (entry f xs ∷ ls) room n k ns ss e i j N S a b = go (f .sort) refl room e (λ r. written-found ls r (suc n))
