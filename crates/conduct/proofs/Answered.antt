@@ -1,6 +1,7 @@
--- A call that is answered was refused by nothing: the entry points' definition taken apart. Assumes nothing.
+-- The entry points' definition taken apart: an answered call was refused by nothing, and a refused one keeps every byte. Assumes nothing.
 use Prim.Native.Nat.{ℕ, _≤_}
-use mathlib.Core.Path.{_≡_, refl, sym, _∙_, subst}
+use native.Mathlib.Omega.{arith}
+use mathlib.Core.Path.{_≡_, refl, sym, ap, _∙_, subst}
 use mathlib.Core.Bool.{Bool, true, false, not}
 use mathlib.Core.List.{List, [], _∷_}
 use lib.Dec.{T, eqb, ltb, eqb→eq, nltb→le}
@@ -64,6 +65,28 @@ module _ (policy : Bytes) (q : Request) (state room : Bytes) where
   pub answered : (n : ℕ) (s : Status) → entry policy q state room .reply ≡ answers n s → Answered
   unfolding entry isAnswer
   answered n s e = answered-by (check policy) refl (subst isAnswer (sym e) tt) refl
+
+  refused-one : (rs : List Refusal) (n : ℕ) → unless rs policy q state room .reply ≡ refuses n → unless rs policy q state room ≡ refusal n state room
+  unfolding unless carriedOut refusal
+  refused-one [] n e = let z : _≡_ {A = ℕ} 0 1 = cc in absurd (omega arith)
+  refused-one (r ∷ rs) n e = go (r .applies) (refused-one rs n) e
+    where
+      go : (b : Bool) → (unless rs policy q state room .reply ≡ refuses n → unless rs policy q state room ≡ refusal n state room)
+          → (elim b as (λ _. Result) [ true ↦ refusal (r .number) state room | false ↦ unless rs policy q state room ]) .reply ≡ refuses n
+          → (elim b as (λ _. Result) [ true ↦ refusal (r .number) state room | false ↦ unless rs policy q state room ]) ≡ refusal n state room
+      go true h e = let z : r .number ≡ n = cc in ap (λ (k : ℕ). refusal k state room) z
+      go false h e = h e
+
+  -- "A refusal returns that number ..; state and event buffers keep every byte."
+  pub refused-keeps : (n : ℕ) → entry policy q state room .reply ≡ refuses n → entry policy q state room ≡ refusal n state room
+  unfolding entry refusal
+  refused-keeps n = go (check policy)
+    where
+      go : (x : Answer)
+          → (elim x as (λ _. Result) [ refused k ↦ refusal k state room | passes r e ↦ unless (refusals policy q state room) policy q state room ]) .reply ≡ refuses n
+          → (elim x as (λ _. Result) [ refused k ↦ refusal k state room | passes r e ↦ unless (refusals policy q state room) policy q state room ]) ≡ refusal n state room
+      go (refused k) e = let z : k ≡ n = cc in ap (λ (m : ℕ). refusal m state room) z
+      go (passes r f) e = refused-one (refusals policy q state room) n e
 
   -- rule 11 is kept
   pub record Room : Type 0 where

@@ -1,19 +1,22 @@
--- Storing and loading: the cells of a tree hold the state that was stored, and no other cell changes. Assumes nothing.
+-- Storing and loading: the cells of a tree hold the state that was stored, no other cell changes, and a cell is told by what is read of it.
+-- Assumes nothing.
 use Prim.Native.Nat.{ℕ, zero, suc, _+_, _^_, _≤_, _<_}
 use native.Mathlib.Omega.{arith}
-use mathlib.Core.Path.{_≡_, refl, sym, ap, _∙_, subst}
+use mathlib.Core.Path.{_≡_, refl, sym, ap, ap₂, _∙_, subst}
 use mathlib.Core.Logic.{⊎-elim}
 use mathlib.Core.Bool.{Bool, true, false, _||_, not}
-use mathlib.Core.List.{List}
+use mathlib.Core.List.{List, _∷_, _++_}
 use lib.Dec.{T, eqb, eqb→eq, eqb-refl, ltb, ltb→lt, nltb→le}
-use lib.ListN.{length, take, drop, getD, replicate, length-replicate}
+use lib.ListN.{length, take, drop, getD, replicate, length-replicate, length-drop, take-append-drop}
+use lib.Seq.{length-take-le, drop-drop}
 use Rattle.actions.specs.Sets.{ActionSet}
-use Rattle.actions.proofs.Tests.{yes-of, of-yes, no-of, or-left, or-right, true-not-false}
+use Rattle.actions.proofs.Tests.{yes-of, of-yes, no-of, or-left, or-right, or-cases, true-not-false}
 use Rattle.policy.specs.Bytes.{Bytes, spelt, number, spell, put}
 use Rattle.policy.specs.Records.{mostNodes}
 use Rattle.policy.specs.Steps.{Step, halt, isNext}
 use Rattle.policy.specs.Tree.{Way, Join, Tree, leaf, trivial, unsatisfiable, node}
-use Rattle.policy.proofs.ByteLaws.{put-length, part-before, drop-after, part-inside, number-part, spell-length, spelt-of-spell}
+use Rattle.policy.proofs.ByteLaws.{Small, small-take, small-drop, put-length, part-before, drop-after, part-inside, number-part, spell-length, spelt-of-spell}
+use Rattle.policy.proofs.NumberLaws.{byte-first, number-first, number-last}
 use Rattle.rules.specs.Lawful.{holds, Disjoint, Numbered, Lawful}
 use Rattle.turns.specs.Status.{Status, running, ended, endedLeft, endedRight, halted, dropped, statusNumber, statusOf}
 use Rattle.turns.specs.State.{State, at, over, status, offset, counter, leftOf, rightOf}
@@ -101,6 +104,20 @@ module _ (bs : Bytes) (i : ℕ) (size : length bs ≡ stateSize) (below : i < mo
 
     pub counter-is : counter s < 256 ^ 4 → counterAt bs i ≡ counter s
     counter-is h = counter-cell ∙ ap (λ (c : Bytes). number c 4 4) is ∙ unfold cell number spell in spelt-of-spell 4 (counter s) h
+
+  -- a cell is told by what is read of it: four numbers, which take up its eight bytes
+  module _ (small : Small bs) where
+    cell-again : cellAt bs i ≡ statusAt bs i ∷ offsetAt bs i ∷ (spell 2 (zerosAt bs i) ++ spell 4 (counterAt bs i))
+    unfolding cellPlace
+    cell-again =
+        let c : Bytes = cellAt bs i in
+        let l : length c ≡ cellSize = unfold cellAt in length-take-le cellSize (drop (cellPlace i) bs) (simp length-drop (omega arith)) in
+        let z : Small c = unfold cellAt in small-take cellSize (drop (cellPlace i) bs) (small-drop (cellPlace i) bs small) in
+        rw (status-cell, offset-cell, zeros-cell, counter-cell, number-last c z 4 4 (omega arith), number-first c z 2 2 (omega arith), byte-first c 1 (omega arith), byte-first c 0 (omega arith))
+
+    pub cell-of : (s : State) → statusAt bs i ≡ statusNumber (status s) → offsetAt bs i ≡ offset s → zerosAt bs i ≡ 0 → counterAt bs i ≡ counter s → cellAt bs i ≡ cell s
+    unfolding cell spell
+    cell-of s e f g h = cell-again ∙ rw (e, f, g, h)
 
 -- cells that agree are read alike
 pub cell-same : (bs cs : Bytes) (i : ℕ) → length bs ≡ stateSize → length cs ≡ stateSize → i < mostNodes → cellAt bs i ≡ cellAt cs i
@@ -190,6 +207,29 @@ kept-moves (node w j i l r) s bs cs h k = (
   kept-moves l (leftOf s) bs cs (λ n u. h n (holds-left w j i l r n u)) (k .1),
   kept-moves r (rightOf s) bs cs (λ n u. h n (holds-right w j i l r n u)) (k .2),
 )
+
+-- bytes that hold one state agree in its cells
+pub kept-same : (t : Tree) (s : State) (bs cs : Bytes) → Kept t s bs → Kept t s cs → (i : ℕ) → T (holds t i) → cellAt bs i ≡ cellAt cs i
+unfolding Kept holds
+kept-same (leaf i r c code) s bs cs p q k h = subst (λ (n : ℕ). cellAt bs n ≡ cellAt cs n) (eqb→eq i k h) (p ∙ sym q)
+kept-same (trivial i) s bs cs p q k h = subst (λ (n : ℕ). cellAt bs n ≡ cellAt cs n) (eqb→eq i k h) (p ∙ sym q)
+kept-same (unsatisfiable i) s bs cs p q k h = subst (λ (n : ℕ). cellAt bs n ≡ cellAt cs n) (eqb→eq i k h) (p ∙ sym q)
+kept-same (node w j i l r) s bs cs p q k h =
+    ⊎-elim (λ u. subst (λ (n : ℕ). cellAt bs n ≡ cellAt cs n) (eqb→eq i k u) (p .0 ∙ sym (q .0)))
+    (λ u. ⊎-elim (kept-same l (leftOf s) bs cs (p .1) (q .1) k) (kept-same r (rightOf s) bs cs (p .2) (q .2) k) (or-cases (holds l k) (holds r k) u))
+    (or-cases (eqb i k) (holds l k || holds r k) h)
+
+-- bytes that agree in their first n cells and in all that follows are the same
+pub cells-same : (bs cs : Bytes) (n : ℕ) → ((i : ℕ) → i < n → cellAt bs i ≡ cellAt cs i) → drop (cellPlace n) bs ≡ drop (cellPlace n) cs → bs ≡ cs
+unfolding cellPlace cellAt
+cells-same bs cs zero h e = e
+cells-same bs cs (suc n) h e =
+    cells-same bs cs n (λ i l. h i (omega arith)) (split bs ∙ ap₂ {C = Bytes} _++_ (h n (omega arith)) e ∙ sym (split cs))
+  where
+    split : (xs : Bytes) → drop (cellPlace n) xs ≡ cellAt xs n ++ drop (cellPlace (suc n)) xs
+    split xs =
+        let z : cellPlace n + cellSize ≡ cellPlace (suc n) = omega arith in
+        sym (take-append-drop cellSize (drop (cellPlace n) xs)) ∙ ap (λ (ys : Bytes). cellAt xs n ++ ys) (drop-drop cellSize (cellPlace n) xs ∙ ap (λ (k : ℕ). drop k xs) z)
 
 -- a greater bound; the bound of a node, and of its sides
 pub below-more : (n : ℕ) → n ≤ mostNodes → (t : Tree) → Below n t → Below mostNodes t

@@ -1,5 +1,6 @@
--- Rule 12 and states at rest: what fits is at rest, and what was saved at rest fits. Assumes nothing.
+-- Rule 12 and states at rest: what fits is at rest and holds nothing but the state that it is read as; what was saved at rest fits. Assumes nothing.
 use Prim.Native.Nat.{ℕ, zero, suc, _+_, _^_, _≤_, _<_}
+use native.Mathlib.Nat.{eq-or-lt-of-le}
 use native.Mathlib.Omega.{arith}
 use mathlib.Core.Path.{_≡_, refl, sym, ap, _∙_, subst}
 use mathlib.Core.Logic.{⊎-elim}
@@ -15,14 +16,14 @@ use Rattle.policy.specs.Records.{mostNodes, nodeCount}
 use Rattle.policy.specs.Steps.{Step, halt, isNext}
 use Rattle.policy.specs.Tree.{Way, Join, and, or, Tree, leaf, trivial, unsatisfiable, node, numberOf, tree}
 use Rattle.policy.proofs.ListLaws.{every-drop}
-use Rattle.policy.proofs.ByteLaws.{drop-after, zeros-every, number-zeros}
+use Rattle.policy.proofs.ByteLaws.{Small, drop-after, zeros-every, number-zeros}
 use Rattle.rules.specs.Lawful.{holds}
 use Rattle.turns.specs.Status.{Status, running, ended, endedLeft, endedRight, halted, dropped, statusNumber, statusOf, isRunning, hasEnded, isHalted, joined}
 use Rattle.turns.specs.State.{State, at, over, status, offset, counter, leftOf, rightOf}
 use Rattle.turns.specs.Saved.{stateSize, cellPlace, statusAt, offsetAt, zerosAt, counterAt, cell, load, store, saved, droppedWith, isRunningAt, statuses, undecided, bare}
 use Rattle.turns.specs.Saved.{waitsAt, fitsUnder, zerosUpTo, fits}
 use Rattle.turns.proofs.Rest.{gone, decidedBy, Rest, leaf-waits, leaf-ended, leaf-halted, trivial-ended, unsatisfiable-halted, pair-runs, pair-decided}
-use Rattle.conduct.proofs.Cells.{Below, below-more, below-here, below-left, below-right, Apart, Sized, cellAt, cell-length, cell-same, put-size, put-cell, put-elsewhere}
+use Rattle.conduct.proofs.Cells.{holds-here, holds-left, holds-right, Below, below-more, below-here, below-left, below-right, Apart, Sized, cellAt, cell-length, cell-of, cell-same, put-size, put-cell, put-elsewhere}
 use Rattle.conduct.proofs.Cells.{store-sized, zeros-is, zero-word, status-back, status-is, offset-is, counter-is, Kept, kept-load, rest-stored, saved-kept, saved-length}
 use Rattle.turns.proofs.StatusLaws.{is-running}
 
@@ -72,7 +73,7 @@ zeroed x o c h =
     let q : c ≡ 0 = eqb→eq c 0 (and-right (eqb o 0) (eqb c 0) h) in
     cc
 
-status-at : (t : Tree) (bs : Bytes) → statusOf (statusAt bs (numberOf t)) ≡ status (load t bs)
+pub status-at : (t : Tree) (bs : Bytes) → statusOf (statusAt bs (numberOf t)) ≡ status (load t bs)
 unfolding numberOf load status
 status-at (leaf i r c code) bs = refl
 status-at (trivial i) bs = refl
@@ -256,6 +257,41 @@ fits-rest (node w j i l r) bs h = go (isRunningAt bs i) refl (pair-parts false w
         let d : T (decidedBy j (statusOf (statusAt bs i))) = unfold isRunningAt in pair-decides j (statusOf (statusAt bs i)) (q .0) (q .1) e in
         pair-decided d (fits-gone l bs (p .left-fits)) (fits-gone r bs (p .right-fits))
 
+-- ---- what fits holds the cells of the state that it is read as
+
+module _ (bs : Bytes) (size : length bs ≡ stateSize) (small : Small bs) where
+  -- a node that has no sides: its cell is read whole
+  leaf-cell : (i : ℕ) (ns : List ℕ) → T (every (λ k. eqb k (statusNumber (statusOf k))) ns) → (i < mostNodes) × (zerosAt bs i ≡ 0) → T (among (statusAt bs i) ns)
+      → cellAt bs i ≡ cell (at (statusOf (statusAt bs i)) false (offsetAt bs i) (counterAt bs i))
+  unfolding status offset counter
+  leaf-cell i ns e z m =
+      cell-of bs i size (z .0) small (at (statusOf (statusAt bs i)) false (offsetAt bs i) (counterAt bs i)) (named (statusAt bs i) ns e m) refl (z .1) refl
+
+  -- a pair: its offset and counter are not read, and are zero
+  pair-cell : (i : ℕ) (j : Join) (a b : State) → (i < mostNodes) × (zerosAt bs i ≡ 0) → T (among (statusAt bs i) (statuses j)) → T (bare bs i)
+      → cellAt bs i ≡ cell (over (statusOf (statusAt bs i)) false a b)
+  unfolding status offset counter bare
+  pair-cell i j a b z m h =
+      cell-of bs i size (z .0) small (over (statusOf (statusAt bs i)) false a b) (named (statusAt bs i) (statuses j) (statuses-named j) m)
+      (eqb→eq (offsetAt bs i) 0 (and-left (eqb (offsetAt bs i) 0) (eqb (counterAt bs i) 0) h)) (z .1)
+      (eqb→eq (counterAt bs i) 0 (and-right (eqb (offsetAt bs i) 0) (eqb (counterAt bs i) 0) h))
+
+  pub fits-kept : (parent : Bool) (t : Tree) → ((i : ℕ) → T (holds t i) → (i < mostNodes) × (zerosAt bs i ≡ 0)) → T (fitsUnder parent t bs) → Kept t (load t bs) bs
+  unfolding holds load Kept leftOf rightOf fitsUnder every statusNumber statusOf
+  fits-kept parent (leaf i r c code) z h =
+      leaf-cell i (1 ∷ 2 ∷ 5 ∷ 6 ∷ []) tt (z i (eqb-refl i))
+      (three (droppedWith parent bs i) (among (statusAt bs i) (1 ∷ 2 ∷ 5 ∷ 6 ∷ [])) (elim (isRunningAt bs i) [ true ↦ waitsAt code c bs i | false ↦ bare bs i ]) h .1)
+  fits-kept parent (trivial i) z h =
+      leaf-cell i (2 ∷ 6 ∷ []) tt (z i (eqb-refl i)) (three (droppedWith parent bs i) (among (statusAt bs i) (2 ∷ 6 ∷ [])) (bare bs i) h .1)
+  fits-kept parent (unsatisfiable i) z h =
+      leaf-cell i (5 ∷ 6 ∷ []) tt (z i (eqb-refl i)) (three (droppedWith parent bs i) (among (statusAt bs i) (5 ∷ 6 ∷ [])) (bare bs i) h .1)
+  fits-kept parent (node w j i l r) z h =
+      let p : PairFits parent (isRunningAt bs i) w j i l r bs = pair-parts parent w j i l r bs h in (
+        pair-cell i j (load l bs) (load r bs) (z i (holds-here w j i l r)) (p .status-fits) (p .is-bare),
+        fits-kept (not (isRunningAt bs i)) l (λ k u. z k (holds-left w j i l r k u)) (p .left-fits),
+        fits-kept (not (isRunningAt bs i)) r (λ k u. z k (holds-right w j i l r k u)) (p .right-fits),
+      )
+
 -- ---- what was saved at rest fits
 
 runs-among : (j : Join) → T (among 1 (statuses j))
@@ -423,11 +459,29 @@ module _ (n : ℕ) (most : n ≤ mostNodes) (t : Tree) (below : Below n t) where
 
 -- ---- rule 12 of a policy
 
+zeros-each : (bs : Bytes) (n : ℕ) → T (zerosUpTo bs n) → (i : ℕ) → i < n → zerosAt bs i ≡ 0
+unfolding zerosUpTo
+zeros-each bs zero h i l = absurd (omega arith)
+zeros-each bs (suc n) h i l = ⊎-elim
+    (λ (e : i ≡ n). subst (λ (k : ℕ). zerosAt bs k ≡ 0) (sym e) (eqb→eq (zerosAt bs n) 0 (and-left (eqb (zerosAt bs n) 0) (zerosUpTo bs n) h)))
+    (λ (e : i < n). zeros-each bs n (and-right (eqb (zerosAt bs n) 0) (zerosUpTo bs n) h) i e)
+    (eq-or-lt-of-le (omega arith))
+
+-- the parts of the rule
+pub record Fitting (policy bs : Bytes) : Type 0 where
+  pub nodes-fit : T (fitsUnder false (tree policy) bs)
+  pub zeros : (i : ℕ) → i < nodeCount policy → zerosAt bs i ≡ 0
+  pub rest-zero : T (every (λ b. eqb b 0) (drop (cellPlace (nodeCount policy)) bs))
+
+pub fitting : (policy bs : Bytes) → T (fits policy bs) → Fitting policy bs
+unfolding fits
+fitting policy bs h =
+    let p = three (fitsUnder false (tree policy) bs) (zerosUpTo bs (nodeCount policy)) (every (λ b. eqb b 0) (drop (cellPlace (nodeCount policy)) bs)) h in
+    record { nodes-fit = p .0; zeros = zeros-each bs (nodeCount policy) (p .1); rest-zero = p .2 }
+
 -- a state that fits is at rest
 pub fits-load : (policy bs : Bytes) → T (fits policy bs) → Rest (tree policy) (load (tree policy) bs)
-unfolding fits
-fits-load policy bs h =
-    fits-rest (tree policy) bs (three (fitsUnder false (tree policy) bs) (zerosUpTo bs (nodeCount policy)) (every (λ b. eqb b 0) (drop (cellPlace (nodeCount policy)) bs)) h .0)
+fits-load policy bs h = fits-rest (tree policy) bs (fitting policy bs h .nodes-fit)
 
 -- a state at rest, saved, fits
 pub fits-saved : (policy : Bytes) → nodeCount policy ≤ mostNodes → Below (nodeCount policy) (tree policy) → Apart (tree policy) → Sized (tree policy)

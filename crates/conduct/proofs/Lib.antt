@@ -9,4 +9,5 @@ pub mod Work
 pub mod Throughout
 pub mod Answered
 pub mod Lasting
+pub mod NoChange
 pub mod Bounds

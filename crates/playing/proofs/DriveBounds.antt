@@ -20,6 +20,7 @@ use Rattle.conduct.proofs.Count.{worth, count, events-append}
 use Rattle.conduct.proofs.Spread.{phase-bound, turn-bound, events-count}
 use Rattle.conduct.proofs.Throughout.{phase-no-verdict}
 use Rattle.conduct.proofs.Work.{phase-steps}
+use Rattle.conduct.proofs.NoChange.{unasked}
 use Rattle.memory.specs.Run.{insertsOf, stepsOf, endOf}
 use Rattle.memory.specs.Memory.{ranOf}
 use Rattle.answering.specs.Ends.{verdicts}
@@ -105,7 +106,7 @@ module _ (t : Tree) (a : Action) (s : State) where
   pub unasked-told : isAsked (regulated t) (before a) s ≡ false → (events (items (trace (call t (offer a) s))) ≡ accepted a ∷ []) × (outcome (call t (offer a) s) .state ≡ s)
   unfolding quiet events eventOf items trace outcome
   unasked-told e =
-      let c : call t (offer a) s ≡ does (accepts a) (quiet s) = unfold call in rw (e, call) in
+      let c : call t (offer a) s ≡ does (accepts a) (quiet s) = unasked t a s e in
       (ap (λ (c : Process). events (items (trace c))) c, ap (λ (c : Process). outcome c .state) c)
 
 -- ---- of a passed file

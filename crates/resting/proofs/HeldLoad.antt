@@ -1,19 +1,14 @@
 -- A saved state that fits, read as the memory of a call, is what it loads: its marks are zero, a node that does not run has offset
 -- and counter zero, and all under a decided node is dropped. Assumes nothing.
-use Prim.Native.Nat.{ℕ, zero, suc, _+_, _<_}
+use Prim.Native.Nat.{ℕ, _+_}
 use native.Mathlib.Omega.{arith}
-use native.Mathlib.Nat.{eq-or-lt-of-le}
-use mathlib.Core.Path.{_≡_, refl, sym, ap, ap₂, _∙_, subst}
-use mathlib.Core.Logic.{⊎-elim}
-use mathlib.Core.Bool.{Bool, true, false, _&&_}
+use mathlib.Core.Path.{_≡_, refl, sym, ap, ap₂, _∙_}
+use mathlib.Core.Bool.{Bool, true, false}
 use mathlib.Core.List.{List, [], _∷_}
-use lib.Dec.{T, eqb, eqb→eq, eqb-refl}
+use lib.Dec.{T, eqb-refl}
 use lib.ListN.{take, drop}
 use Rattle.actions.specs.Sets.{ActionSet}
-use Rattle.actions.proofs.Tests.{and-left, and-right}
 use Rattle.policy.specs.Bytes.{Bytes, spelt, number}
-use Rattle.policy.specs.Lists.{every}
-use Rattle.policy.specs.Records.{nodeCount}
 use Rattle.policy.specs.Steps.{Step}
 use Rattle.policy.specs.Tree.{Way, Join, and, or, Tree, leaf, trivial, unsatisfiable, node, tree}
 use Rattle.rules.specs.Lawful.{holds}
@@ -22,10 +17,10 @@ use Rattle.rules.specs.Passed.{Passed}
 use Rattle.turns.specs.Status.{Status, running, ended, endedLeft, endedRight, halted, dropped, isRunning}
 use Rattle.turns.specs.State as states
 use Rattle.turns.specs.State.{State, at, over, leafOver, noded}
-use Rattle.turns.specs.Saved.{cellPlace, zerosAt, load, fitsUnder, zerosUpTo, fits}
+use Rattle.turns.specs.Saved.{cellPlace, zerosAt, load, fits}
 use Rattle.turns.proofs.Rest.{gone, decidedBy, Rest, leaf-waits, leaf-ended, leaf-halted, trivial-ended, unsatisfiable-halted, pair-runs, pair-decided}
 use Rattle.conduct.proofs.Cells.{holds-here, holds-left, holds-right}
-use Rattle.conduct.proofs.Fits.{fits-load}
+use Rattle.conduct.proofs.Fits.{fitting, fits-load}
 use Rattle.memory.specs.Memory.{Mem, view, markAt, leafed, held}
 
 -- ---- dropped, whatever the cells hold
@@ -124,20 +119,6 @@ mark-zero : (bs : Bytes) (i : ℕ) → zerosAt bs i ≡ 0 → markAt bs i ≡ 0
 unfolding zerosAt markAt number
 mark-zero bs i h = first-zero (drop (cellPlace i + 2) bs) h
 
-zeros-each : (bs : Bytes) (n : ℕ) → T (zerosUpTo bs n) → (i : ℕ) → i < n → zerosAt bs i ≡ 0
-unfolding zerosUpTo
-zeros-each bs zero h i l = absurd (omega arith)
-zeros-each bs (suc n) h i l = ⊎-elim
-    (λ (e : i ≡ n). subst (λ (k : ℕ). zerosAt bs k ≡ 0) (sym e) (eqb→eq (zerosAt bs n) 0 (and-left (eqb (zerosAt bs n) 0) (zerosUpTo bs n) h)))
-    (λ (e : i < n). zeros-each bs n (and-right (eqb (zerosAt bs n) 0) (zerosUpTo bs n) h) i e)
-    (eq-or-lt-of-le (omega arith))
-
 pub held-load : (policy bs ws : Bytes) → Passed policy → T (fits policy bs) → held (tree policy) (view bs ws) ≡ load (tree policy) bs
-unfolding fits
-held-load policy bs ws ok h = held-rest (tree policy) bs ws (λ i u. mark-zero bs i (zeros-each bs (nodeCount policy) zeros i (numbers-below-nodes policy ok i u))) (fits-load policy bs h)
-  where
-    zeros : T (zerosUpTo bs (nodeCount policy))
-    zeros =
-        let f : Bool = fitsUnder false (tree policy) bs in
-        let z : Bool = zerosUpTo bs (nodeCount policy) in
-        and-right f z (and-left (f && z) (every (λ b. eqb b 0) (drop (cellPlace (nodeCount policy)) bs)) h)
+held-load policy bs ws ok h =
+    held-rest (tree policy) bs ws (λ i u. mark-zero bs i (fitting policy bs h .zeros i (numbers-below-nodes policy ok i u))) (fits-load policy bs h)

@@ -80,7 +80,7 @@ decidedBy-decided or endedRight h = tt
 decidedBy-decided or halted h = tt
 decidedBy-decided or dropped h = h
 
-decided-stops : (s : Status) → T (isDecided s) → isRunning s ≡ false
+pub decided-stops : (s : Status) → T (isDecided s) → isRunning s ≡ false
 unfolding isDecided hasEnded isHalted isRunning
 decided-stops running h = absurd h
 decided-stops ended h = refl
