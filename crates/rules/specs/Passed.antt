@@ -1,7 +1,9 @@
--- A policy that the check passes, as the code after the check asks for it: `passed` and `passes-all` of proofs/Passed say that it is
--- just that. Assumes nothing.
+-- What the check's two answers say of the rules by the paper's numbers, whatever the order in which they are tried. Assumes nothing.
+use Prim.Native.Nat.{ℕ, _<_}
 use mathlib.Core.Path.{_≡_}
-use mathlib.Core.Bool.{false}
+use mathlib.Core.Bool.{Bool, true, false}
+use mathlib.Core.List.{[], _∷_}
+use lib.ListN.{getD}
 use Rattle.policy.specs.Bytes.{Bytes}
 use Rattle.rules.specs.Layout.{broken1, broken2, broken3, broken4}
 use Rattle.rules.specs.Children.{broken5}
@@ -11,7 +13,7 @@ use Rattle.rules.specs.Possible.{broken8}
 use Rattle.rules.specs.Interference.{broken9}
 use Rattle.rules.specs.Spread.{broken10}
 
--- no rule is broken
+-- A pass, as the code after the check asks for it: no rule is broken. `passed` and `passes-all` of proofs/Passed.
 pub record Passed (file : Bytes) : Type 0 where
   pub kept1 : broken1 file ≡ false
   pub kept2 : broken2 file ≡ false
@@ -23,3 +25,24 @@ pub record Passed (file : Bytes) : Type 0 where
   pub kept8 : broken8 file ≡ false
   pub kept9 : broken9 file ≡ false
   pub kept10 : broken10 file ≡ false
+
+-- whether the file breaks the rule of this number; 0 and 11 on are no rules
+unfoldable pub breaks : Bytes → ℕ → Bool
+breaks file n =
+    getD (false
+    ∷ broken1 file
+    ∷ broken2 file
+    ∷ broken3 file
+    ∷ broken4 file
+    ∷ broken5 file
+    ∷ broken6 file
+    ∷ broken7 file
+    ∷ broken8 file
+    ∷ broken9 file
+    ∷ broken10 file
+    ∷ []) n false
+
+-- A refusal: "The lowest number that applies is given." `refused-number` and `number-refused` of proofs/Passed.
+pub record LowestBroken (file : Bytes) (n : ℕ) : Type 0 where
+  pub applies : breaks file n ≡ true
+  pub lower-kept : (k : ℕ) → k < n → breaks file k ≡ false
