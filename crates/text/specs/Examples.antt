@@ -67,11 +67,15 @@ readAs ps = records (nodesIn ps) (stepsIn ps)
 unfoldable pub written : List Written
 unfolding readAs built
 written =
-    -- comments, empty lines, spaces, tabs, a carriage return before the newline, no newline at the end
+    -- comments, empty lines, spaces, tabs, no newline at the end
     record {
-      text = ascii "# W\r\n\n  leaf\t{ 3 }   0 # on\r\n\n\tnext 1 2\n# done\nsup 0# {\n   \nend";
+      text = ascii "# W\n\n  leaf\t{ 3 }   0 # on\n\n\tnext 1 2\n# done\nsup 0# {\n   \nend";
       read = readAs (W ∷ []);
     }
+    -- lines that end in a carriage return and a newline; one alone is a blank, and ends no line
+    ∷ record { text = ascii "# W\r\nleaf {3} 0\r\n\r\n  next 1 2\r\n  sup 0 # on\r\n  end\r\n"; read = readAs (W ∷ []) }
+    ∷ record { text = ascii "and 1\r2"; read = readAs (pairOf 4 1 2 ∷ []) }
+    ∷ record { text = ascii "trivial\rtrivial"; read = badLine 1 }
     -- a brace is a word wherever it stands; actions in any order, and twice; zeros before a number
     ∷ record { text = ascii "leaf{ 06 3 3}000"; read = readAs (leafOf (3 ∷ 6 ∷ []) 0 [] ∷ []) }
     ∷ record { text = ascii "leaf {0} 0\nacase{0}1 00000000002"; read = readAs (leafOf (0 ∷ []) 0 (acase 1 1 2 ∷ []) ∷ []) }
