@@ -8,7 +8,7 @@ use Rattle.policy.specs.Bytes.{Bytes}
 use Rattle.rules.specs.Check.{Answer, passes, refused, check}
 use Rattle.checking.specs.declared.Checked.{Checked}
 use Rattle.checking.specs.declared.Checked.the-variants.{Passed, Refused}
-use Rattle.checking.specs.Answers.{answered}
+use Rattle.checking.specs.Answers.{answered, numberOf}
 
 isPass : Answer → Bool
 isPass (passes r e) = true
@@ -31,6 +31,11 @@ one-answer (Refused n) (Passed r e) h = true-not-false refl (ap isPass (sym h))
 one-answer (Refused n) (Refused m) h = ap (λ (x : ℕ). Refused x) (ap first h)
 
 -- ---- what the code's answer says of the check's
+
+-- what `number` gives of a refusal is the refusal's
+pub number-refuses : {x : Checked} {n k : ℕ} → k ≡ numberOf (answered x) → x ≡ Refused n → k ≡ n
+unfolding answered numberOf
+number-refuses e h = e ∙ ap (λ (y : Checked). numberOf (answered y)) h
 
 module _ (policy : Bytes) {x : Checked} (e : answered x ≡ check policy) where
   pub check-passes : {r f : ActionSet} → x ≡ Passed r f → check policy ≡ passes (r .bits) (f .bits)

@@ -1,11 +1,10 @@
 // The check: rules 1 to 10, each tried over the whole file, where the caller keeps it, before its answer counts. Rules 6 to 8 are tried in
 // one walk through each leaf.
 ghost use mathlib.Core.Path.{_≡_};
-ghost use Prim.Native.Nat.{ℕ};
-ghost use Rattle.rules.specs.Check.{refused, check};
+ghost use Rattle.rules.specs.Check.{check};
 ghost use Rattle.rules.specs.Interference.{leafEffects};
 ghost use Rattle.surveying.specs.Leaves.{insertsIn, Held};
-ghost use Rattle.checking.specs.Answers.{answered};
+ghost use Rattle.checking.specs.Answers.{answered, numberOf};
 ghost use Rattle.checking.specs.Kept.{FrontKept, LeavesKept};
 use actions::ActionSet;
 use children::broken5;
@@ -26,9 +25,9 @@ pub enum Checked {
     Refused(u8),
 }
 
-// The refusal's number; of a check that passed there is none.
+// The refusal's number. A check that passed has none, and no rule has number 0: it gives that.
 pub fn number(checked: Checked) -> u8
-    ensures { λ r. ⌜ ((k : ℕ) → answered checked ≡ refused k → r ≡ k) ⌝ }
+    ensures { λ r. ⌜ r ≡ numberOf (answered checked) ⌝ }
 {
     match checked {
         Checked::Passed(_, _) => 0,

@@ -1,17 +1,22 @@
--- `number` meets its contract: a check that passed has no number. Assumes nothing.
-use mathlib.Core.Path.{sym, ap, _∙_}
+-- `number` meets its contract: the number of a refusal, and 0 of a pass. Assumes nothing.
+use Prim.Native.Nat.{ℕ}
+use mathlib.Core.Path.{sym, ap}
 use borrow.Author.Needs.{needs}
-use Rattle.checking.specs.Answers.{answered}
+use Rattle.checking.specs.declared.Checked.{Checked}
+use Rattle.checking.specs.Answers.{answered, numberOf}
 use Rattle.checking.proofs.number.Statement.{statement}
 use Rattle.checking.proofs.number.Tie as tie
 
+abbrev numbered : Checked → ℕ
+numbered x = numberOf (answered x)
+
 returns : tie.Need-returns
-unfolding answered
-returns c k e = let f = sym (ap answered (c .enum-told .given .1)) ∙ e in cc
+unfolding answered numberOf
+returns c = sym (ap numbered (c .enum-told .given .1))
 
 returns-2 : tie.Need-returns-2
-unfolding answered
-returns-2 c k e = let f = sym (ap answered (c .before .checked .given .1)) ∙ e in cc
+unfolding answered numberOf
+returns-2 c = sym (ap numbered (c .before .checked .given .1))
 
 pub number-spec : {M : Type 1} → statement M
 number-spec = tie.close (tie.spec (λ c. search needs) (λ c. search needs) returns returns-2)

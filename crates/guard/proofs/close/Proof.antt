@@ -1,9 +1,8 @@
 -- `close` meets its contract: the check's refusal, refusal 11 or 12, or the call carried out. Assumes nothing.
-use mathlib.Core.Path.{sym, ap, _∙_}
+use mathlib.Core.Path.{sym, _∙_}
 use borrow.Author.Needs.{needs}
 use Rattle.rules.proofs.Passed.{passed}
-use Rattle.checking.specs.Answers.{answered}
-use Rattle.checking.proofs.Answers.{check-passes, check-refuses}
+use Rattle.checking.proofs.Answers.{check-passes, check-refuses, number-refuses}
 use Rattle.turns.specs.Turn as spec
 use Rattle.turns.specs.Entries.{refusals, closes}
 use Rattle.answering.specs.declared.Call.the-variants.{Close}
@@ -14,11 +13,11 @@ use Rattle.guard.proofs.close.Statement.{statement}
 use Rattle.guard.proofs.close.Tie as tie
 
 returns : tie.Need-returns
-unfolding closes answered
+unfolding closes
 returns c =
     let a = c .before .before .before .before .before .before .before .args in
     let e = c .before .enum-told2 .given .1 in
-    refused-file (a .policy .now) spec.close (a .state .now) (a .events .now) _ (check-refuses (a .policy .now) (c .before .before .before .check .ensures) e) (c .number .ensures _ (ap answered e))
+    refused-file (a .policy .now) spec.close (a .state .now) (a .events .now) _ (check-refuses (a .policy .now) (c .before .before .before .check .ensures) e) (number-refuses (c .number .ensures) e)
 
 returns-2 : tie.Need-returns-2
 unfolding closes refusals

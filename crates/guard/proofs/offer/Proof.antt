@@ -1,10 +1,9 @@
 -- `offer` meets its contract: the check's refusal, refusals 11 to 14 in order, or the call carried out. Assumes nothing.
 use native.Mathlib.Omega.{arith}
-use mathlib.Core.Path.{sym, ap, _∙_}
+use mathlib.Core.Path.{sym, _∙_}
 use borrow.Author.Needs.{needs}
 use Rattle.rules.proofs.Passed.{passed}
-use Rattle.checking.specs.Answers.{answered}
-use Rattle.checking.proofs.Answers.{check-passes, check-refuses}
+use Rattle.checking.proofs.Answers.{check-passes, check-refuses, number-refuses}
 use Rattle.turns.specs.Turn as spec
 use Rattle.turns.specs.Entries.{refusals, offers}
 use Rattle.answering.specs.declared.Call.the-variants.{Offer}
@@ -16,11 +15,11 @@ use Rattle.guard.proofs.offer.Statement.{statement}
 use Rattle.guard.proofs.offer.Tie as tie
 
 returns : tie.Need-returns
-unfolding offers answered
+unfolding offers
 returns c =
     let a = c .before .before .before .before .before .before .before .args in
     let e = c .before .enum-told2 .given .1 in
-    refused-file (a .policy .now) (spec.offer (a .action)) (a .state .now) (a .events .now) _ (check-refuses (a .policy .now) (c .before .before .before .check .ensures) e) (c .number .ensures _ (ap answered e))
+    refused-file (a .policy .now) (spec.offer (a .action)) (a .state .now) (a .events .now) _ (check-refuses (a .policy .now) (c .before .before .before .check .ensures) e) (number-refuses (c .number .ensures) e)
 
 returns-2 : tie.Need-returns-2
 unfolding offers refusals

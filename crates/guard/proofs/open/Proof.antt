@@ -1,8 +1,7 @@
 -- `open` meets its contract: the check's refusal, refusal 11, or the call carried out. Assumes nothing.
-use mathlib.Core.Path.{sym, ap, _∙_}
+use mathlib.Core.Path.{sym, _∙_}
 use borrow.Author.Needs.{needs}
-use Rattle.checking.specs.Answers.{answered}
-use Rattle.checking.proofs.Answers.{check-passes, check-refuses}
+use Rattle.checking.proofs.Answers.{check-passes, check-refuses, number-refuses}
 use Rattle.turns.specs.Turn.{opening}
 use Rattle.turns.specs.Entries.{refusals, opens}
 use Rattle.answering.specs.declared.Call.the-variants.{Open}
@@ -13,11 +12,11 @@ use Rattle.guard.proofs.open.Statement.{statement}
 use Rattle.guard.proofs.open.Tie as tie
 
 returns : tie.Need-returns
-unfolding opens answered
+unfolding opens
 returns c =
     let a = c .before .before .before .before .before .before .before .args in
     let e = c .before .enum-told2 .given .1 in
-    refused-file (a .policy .now) opening (a .state .now) (a .events .now) _ (check-refuses (a .policy .now) (c .before .before .before .check .ensures) e) (c .number .ensures _ (ap answered e))
+    refused-file (a .policy .now) opening (a .state .now) (a .events .now) _ (check-refuses (a .policy .now) (c .before .before .before .check .ensures) e) (number-refuses (c .number .ensures) e)
 
 returns-2 : tie.Need-returns-2
 unfolding opens refusals

@@ -1,10 +1,9 @@
 -- `write` meets its contract: the refusals in their order, or the file. Assumes nothing.
 use native.Mathlib.Omega.{arith}
-use mathlib.Core.Path.{sym, ap, _∙_}
+use mathlib.Core.Path.{sym, _∙_}
 use borrow.Author.Needs.{needs}
 use borrow.Author.Tests.{not-true, not-false}
-use Rattle.checking.specs.Answers.{answered}
-use Rattle.checking.proofs.Answers.{check-passes, check-refuses}
+use Rattle.checking.proofs.Answers.{check-passes, check-refuses, number-refuses}
 use Rattle.files.proofs.Files.{lendable-lent}
 use Rattle.writing.proofs.Lays.{gave-3, gave-refused, gave-15, gave-file}
 use Rattle.writing.proofs.write.Statement.{statement}
@@ -19,12 +18,11 @@ check-laid-requires : tie.Need-check-laid-requires
 check-laid-requires c κs = lendable-lent _ _ (sym (c .before .lendable .ensures) ∙ not-false _ (c .if1 .left))
 
 returns-2 : tie.Need-returns-2
-unfolding answered
 returns-2 c =
     let a = c .before .before .before .before .before .before .before .before .before .args in
     let l = lendable-lent (a .nodes .now) (a .steps .now) (sym (c .before .before .before .before .before .lendable .ensures) ∙ not-false _ (c .before .before .before .before .if1 .left)) in
     let e = c .before .enum-told2 .given .1 in
-    gave-refused (a .nodes .now) (a .steps .now) (a .out .now) l (check-refuses _ (c .before .before .before .check-laid .ensures) e) (c .number .ensures _ (ap answered e))
+    gave-refused (a .nodes .now) (a .steps .now) (a .out .now) l (check-refuses _ (c .before .before .before .check-laid .ensures) e) (number-refuses (c .number .ensures) e)
 
 size-requires : tie.Need-size-requires
 size-requires c κs = lendable-lent _ _ (sym (c .before .before .before .before .lendable .ensures) ∙ not-false _ (c .before .before .before .if1 .left))
