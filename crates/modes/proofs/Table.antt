@@ -4,13 +4,43 @@ use native.Mathlib.Omega.{arith}
 use mathlib.Core.Path.{_≡_, refl, sym, _∙_, subst}
 use lib.Dec.{eqb}
 use Rattle.policy.specs.Bytes.{Bytes, number}
+use Rattle.policy.specs.Lists.{one}
 use Rattle.policy.specs.Records.{Row, rowAt}
 use Rattle.policy.specs.Steps.{stepOf, isNext}
 use Rattle.rules.specs.Modes.{Mode, idle, pending, closing, isIdle, isPending, isClosing, stands, leads}
-use Rattle.modes.specs.Table.{modeNumber, table, entryAt, reaching, mayStand, ledBy, Tells}
+use Rattle.modes.specs.Table.{modeNumber, table, entryAt, firstMode, secondMode, ruled, reaching, mayStand, ledBy, Tells}
 
 abbrev kinded : Row → ℕ → Row
 kinded r k = record { kind = k; action = r .action; first = r .first; second = r .second; operand = r .operand }
+
+-- ---- the whole table: every entry of every row is the rule's own
+
+-- the entry of kind k in a mode
+abbrev Entry : Row → ℕ → Mode → Type 0
+Entry r k m = entryAt k (modeNumber m) ≡ ruled k (stepOf (kinded r k)) m
+
+each : (r : Row) (k : ℕ) → Entry r k idle → Entry r k pending → Entry r k closing → (m : Mode) → Entry r k m
+each r k a b c idle = a
+each r k a b c pending = b
+each r k a b c closing = c
+
+entries : (r : Row) (k : ℕ) → k ≤ 8 → (m : Mode) → Entry r k m
+unfolding table entryAt modeNumber stepOf stands leads isIdle isPending firstMode secondMode ruled one
+entries r zero h = each r 0 refl refl refl
+entries r (suc zero) h = each r 1 refl refl refl
+entries r (suc (suc zero)) h = each r 2 refl refl refl
+entries r (suc (suc (suc zero))) h = each r 3 refl refl refl
+entries r (suc (suc (suc (suc zero)))) h = each r 4 refl refl refl
+entries r (suc (suc (suc (suc (suc zero))))) h = each r 5 refl refl refl
+entries r (suc (suc (suc (suc (suc (suc zero)))))) h = each r 6 refl refl refl
+entries r (suc (suc (suc (suc (suc (suc (suc zero))))))) h = each r 7 refl refl refl
+entries r (suc (suc (suc (suc (suc (suc (suc (suc zero)))))))) h = each r 8 refl refl refl
+entries r (suc (suc (suc (suc (suc (suc (suc (suc (suc k))))))))) h = absurd (omega arith)
+
+pub table-ruled : (r : Row) (m : Mode) → r .kind ≤ 8 → entryAt (r .kind) (modeNumber m) ≡ ruled (r .kind) (stepOf r) m
+table-ruled r m h = entries r (r .kind) h m
+
+-- ---- what the code asks of it
 
 -- a row of kind k is what row j of the table says
 abbrev Told : Row → ℕ → ℕ → Mode → Type 0

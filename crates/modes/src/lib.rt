@@ -17,9 +17,9 @@ use reading::byte;
 
 // The mode rule, a row for each kind of step and a column for each mode: 0 idle, 1 pending, 2 closing. An entry has three digits:
 // whether the kind may stand there, the mode in which it reaches its first target, and that of its second. A target that the kind
-// does not have has mode 3. What is no kind of step is a halt.
+// does not have has mode 3. What is no kind of step stands nowhere and leads nowhere.
 const TABLE: [[u8; 3]; 9] = [
-    [0b1_11_11, 0b1_11_11, 0b1_11_11], // no kind
+    [0b0_11_11, 0b0_11_11, 0b0_11_11], // no kind
     [0b1_01_10, 0b0_01_10, 0b0_01_10], // next
     [0b0_00_11, 0b1_00_11, 0b0_00_11], // ok
     [0b0_00_11, 0b1_00_11, 0b0_00_11], // sup
@@ -121,7 +121,8 @@ fn lead_by(idle: u8, pending: u8, closing: u8, met: Met, seen: &mut [u8]) -> boo
 }
 
 // Marks what the step leads to, and holds it to the table by the marks before it. Every next counts as reached idle, and is not held to
-// anything here. The entries are asked for by their numbers, so that a compiler knows what they say.
+// anything here. An end's row is a halt's, and a record of no kind, which rule 4 refuses, is read as a halt: these share an arm. The
+// entries are asked for by their numbers, so that a compiler knows what they say.
 pub fn lead(policy: &[u8], at: usize, o: usize, seen: &mut [u8]) -> bool
     requires { ⌜ (at + 12 ≤ length (now policy)) × (o < 64) × Kept (now seen) ⌝ }
     requires { ⌜ T (every (λ t. ltb t 64) (targets (stepOf (rowAt (now policy) at)))) ⌝ }
