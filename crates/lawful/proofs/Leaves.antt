@@ -74,6 +74,7 @@ module _ (r : ActionSet) (code : List Step) (six : T (targetsFit r code)) (seven
   )
   follows m o l h (acase s y z) e =
       let u = reaches m o l h (acase s y z) e in (
+        sym (pending-only m (standing m o l h (acase s y z) e)),
         u m y (List·Memᴰ·head refl),
         u m z (List·Memᴰ·tail (List·Memᴰ·head refl)),
         (λ a k i. brings o y a (λ c. in-case e (of-yes (has s a) i) c) k),

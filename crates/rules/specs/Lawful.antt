@@ -32,7 +32,7 @@ Follows r code m o (ok t) = (m ≡ pending) × T (reachedIn code idle t)
 Follows r code m o (sup t) = (m ≡ pending) × T (reachedIn code idle t) × Sub (possibleAt r code o) (leafEffects r code)
 Follows r code m o (ins b t) = T (reachedIn code m t) × Sub (possibleAt r code o) (possibleAt r code t) × T (has (leafEffects r code) b)
 Follows r code m o (acase s y z) =
-    T (reachedIn code m y) × T (reachedIn code m z)
+    (m ≡ pending) × T (reachedIn code m y) × T (reachedIn code m z)
     × ((a : Action) → T (has (possibleAt r code o) a) → has s a ≡ true → T (has (possibleAt r code y) a))
     × ((a : Action) → T (has (possibleAt r code o) a) → has s a ≡ false → T (has (possibleAt r code z) a))
 Follows r code m o (spend n y z) =

@@ -11,7 +11,7 @@ use borrow.Author.Tests.{eqb-true, eqb-false}
 use types.Run.{OneOf, miss}
 use denote.Enum.Declared.{tagOf}
 use Rattle.actions.specs.Sets.{ActionSet}
-use Rattle.actions.proofs.Tests.{of-yes, true-not-false, and-assoc, and-true}
+use Rattle.actions.proofs.Tests.{yes-of, of-yes, true-not-false, and-assoc, and-true}
 use Rattle.policy.specs.Bytes.{Bytes}
 use Rattle.policy.specs.Lists.{summed}
 use Rattle.policy.specs.Records.{mostNodes, Node, nodeAt, nodePlace, nodeCount, nodes}
@@ -32,6 +32,7 @@ use Rattle.rules.specs.Interference.{leafEffects}
 use Rattle.rules.proofs.Numbers.{node-read}
 use Rattle.walking.specs.declared.Walked.{Walked}
 use Rattle.walking.specs.Leaf.{LeafFound}
+use Rattle.walking.proofs.Found.{found-modes, found-taken, found-effects, found-inserts}
 use Rattle.surveying.specs.Leaves.{nodePasses, modesOf, insertsIn, NodeFound, Held, lowest, LeavesFound}
 use Rattle.surveying.proofs.LeafLaws.{answerOf, passes-by, leavesFrom, leaves-whole, leaves-over, rest-here, code-is}
 
@@ -43,13 +44,13 @@ module _ (w : Walked) (x : Node) (code : List Step) where
   leaf-found s k e f =
       let found = subst (λ (r : ActionSet). LeafFound w r code) e f in
       let six : targetsFit (x .set) code ≡ nodePasses targetsFit x code = passes-by targetsFit x code aLeaf k in
-      let back : T (nodePasses targetsFit x code) → T (targetsFit (x .set) code) = subst T (sym six) in
+      let back : T (nodePasses targetsFit x code) → targetsFit (x .set) code ≡ true = λ t. six ∙ yes-of _ t in
       record {
         targets = found .targets ∙ six;
-        modes = λ t. found .modes (back t) ∙ passes-by modesOf x code aLeaf k;
-        taken = λ t. found .taken (back t) ∙ passes-by allTaken x code aLeaf k;
-        effects = λ l t. found .effects (back t);
-        inserts = λ l t. found .inserts (back t);
+        modes = λ t. found-modes _ _ _ found (back t) ∙ passes-by modesOf x code aLeaf k;
+        taken = λ t. found-taken _ _ _ found (back t) ∙ passes-by allTaken x code aLeaf k;
+        effects = λ l t. found-effects _ _ _ found (back t);
+        inserts = λ l t. found-inserts _ _ _ found (back t);
       }
 
 -- a node that is no leaf

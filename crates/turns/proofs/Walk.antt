@@ -134,7 +134,7 @@ module _ (i c₀ : ℕ) (r : ActionSet) (code : List Step) where
   fine-step a m go o c (acase s y z) e h p n g =
       fine-does f (LeafOut m) (ran i o) (own-step o)
       (which-case (λ o′. Fine f (LeafOut m) (go o′ c)) (has s a) y z
-      (λ e′. g y c (h .0) (λ e″. h .2 a (p e″) e′) n) (λ e′. g z c (h .1) (λ e″. h .3 a (p e″) e′) n))
+      (λ e′. g y c (h .1) (λ e″. h .3 a (p e″) e′) n) (λ e′. g z c (h .2) (λ e″. h .4 a (p e″) e′) n))
   fine-step a m go o c (spend u y z) e h p n g =
       fine-does f (LeafOut m) (ran i o) (own-step o)
       (which-case (λ o′. Fine f (LeafOut m) (go o′ (which (affords c u) (c - u) c))) (affords c u) y z

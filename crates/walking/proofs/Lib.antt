@@ -1,1 +1,2 @@
 mod LeafWalk
+pub mod Found

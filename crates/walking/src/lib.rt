@@ -16,7 +16,7 @@ use possible::step_effects;
 use reading::byte;
 use targets::step_fits;
 
-// Rule 6, rule 7, rule 8, the effect set and the number of ins steps. Where rule 6 is broken, the others say nothing.
+// Rule 6, rule 7, rule 8, the effect set and the number of ins steps.
 pub struct Walked {
     pub targets: bool,
     pub modes: bool,
@@ -33,6 +33,7 @@ fn is_ins(policy: &[u8], at: usize) -> bool
     byte(policy, at) == 4
 }
 
+// A walk ends at a step that breaks rule 6. What it has found by then says nothing of the leaf, and so is not given.
 pub fn walk(policy: &[u8], at: usize, count: usize, set: ActionSet) -> Walked
     requires { ⌜ (at + 12 * count ≤ length (now policy)) × (count ≤ 64) ⌝ }
     ensures { λ r. ⌜ LeafFound r (set .bits) (codeAt (now (policy .entry)) at count) ⌝ }
@@ -47,14 +48,13 @@ pub fn walk(policy: &[u8], at: usize, count: usize, set: ActionSet) -> Walked
     let mut o = 0;
     while o < count {
         let row = at + 12 * o;
-        let targets = step_fits(policy, at, count, o, set);
-        if !targets {
+        if !step_fits(policy, at, count, o, set) {
             return Walked {
-                targets,
-                modes,
-                taken,
-                effects,
-                inserts,
+                targets: false,
+                modes: false,
+                taken: false,
+                effects: ActionSet::EMPTY,
+                inserts: 0,
             };
         }
         modes = modes & lead(policy, row, o, &mut seen);

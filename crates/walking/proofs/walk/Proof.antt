@@ -17,6 +17,7 @@ use Rattle.modes.specs.Marks.{Adds}
 use Rattle.modes.proofs.Marks.{none-marked}
 use Rattle.modes.proofs.Final.{modes-parts}
 use Rattle.targets.proofs.TargetLaws.{test-inside}
+use Rattle.walking.proofs.Found.{kept-found, broken-found}
 use Rattle.walking.proofs.LeafWalk.{byte-small, inside-more, none-possible, stepIn, code, Walking, walk-starts, walk-goes, walk-stops}
 use Rattle.walking.proofs.LeafWalk.{all-marks, all-fit, all-others, all-branches, all-effects, all-inserts}
 use Rattle.walking.proofs.walk.Statement.{statement}
@@ -60,18 +61,12 @@ loop-holds c =
     walk-starts _ _ _ _ _ _ (c .before .mark .ensures [] none-marked) refl (none-possible (s .args .count) (s .pre .1))
 
 returns : tie.Need-returns Inv-loop μ-loop
+unfolding EMPTY
 returns c =
     let l = c .before .before .before .loop in
     let b = c .before .step-fits .result in
     let no : b ≡ false = not-true _ (c .if1 .taken) in
-    let fits = walk-stops _ _ _ _ _ _ _ _ _ _ _ (l .inv) (c .before .before .loop-test .taken) b (c .before .step-fits .ensures) no in
-    record {
-      targets = fits;
-      modes = λ six. absurd (subst T (sym fits ∙ no) six);
-      taken = λ six. absurd (subst T (sym fits ∙ no) six);
-      effects = λ six. absurd (subst T (sym fits ∙ no) six);
-      inserts = λ six. absurd (subst T (sym fits ∙ no) six);
-    }
+    broken-found _ _ _ (sym no ∙ walk-stops _ _ _ _ _ _ _ _ _ _ _ (l .inv) (c .before .before .loop-test .taken) b (c .before .step-fits .ensures) no) refl refl refl refl refl
 
 lead-requires : tie.Need-lead-requires Inv-loop μ-loop
 lead-requires c κs =
@@ -99,13 +94,13 @@ returns-2 c =
     let w = c .before .before .before .loop .inv in
     let h = c .before .before .loop-test .left in
     let s = c .before .before .before .before .before .before .before .before .args in
-    record {
-      targets = all-fit _ _ _ _ _ _ _ _ _ _ _ w h;
-      modes = λ six. (λ i. all-others _ _ _ _ _ _ _ _ _ _ _ w h six i && c .nexts-fit .ensures i) ∙ modes-parts (code (s .policy .now) (s .at) (s .count));
-      taken = all-branches _ _ _ _ _ _ _ _ _ _ _ w h;
-      effects = all-effects _ _ _ _ _ _ _ _ _ _ _ w h;
-      inserts = λ six. all-inserts _ _ _ _ _ _ _ _ _ _ _ w h;
-    }
+    let fit = all-fit _ _ _ _ _ _ _ _ _ _ _ w h in
+    let six = of-yes _ (sym fit) in
+    kept-found _ _ _ fit refl
+    ((λ i. all-others _ _ _ _ _ _ _ _ _ _ _ w h six i && c .nexts-fit .ensures i) ∙ modes-parts (code (s .policy .now) (s .at) (s .count)))
+    (all-branches _ _ _ _ _ _ _ _ _ _ _ w h six)
+    (all-effects _ _ _ _ _ _ _ _ _ _ _ w h six)
+    (all-inserts _ _ _ _ _ _ _ _ _ _ _ w h)
 
 pub walk-spec : {M : Type 1} → statement M
 walk-spec =
