@@ -184,8 +184,9 @@ pub struct Start {
     pub offset: u8,
 }
 
-// Where a next leads when it is left: to its take target, at closing to its done target. What is no next leads nowhere. Only here is a
-// step not read as an enum: of a next that is left one byte is wanted, and the enum's reader then has one caller, which it is compiled into.
+// Where a next leads when it is left: to its take target, at closing to its done target. What is no next leads nowhere. Of the turns' code
+// this alone reads a step's kind as a byte, as the check and rule 12 do throughout: of a next that is left one byte is wanted. So `go_on`
+// alone of that code calls the enum's reader, which is then compiled into it.
 fn leaving(policy: &[u8], at: usize, count: usize, offset: u8, closing: bool) -> u8
     requires { ⌜ at + 12 * count ≤ length (now policy) ⌝ }
     ensures { λ r. ⌜ r ≡ leaving closing (getD (codeAt (now (policy .entry)) at count) offset halt) ⌝ }
