@@ -5,7 +5,7 @@ ghost use mathlib.Core.Bool.{_||_, not};
 ghost use mathlib.Core.List.{List, _++_};
 ghost use Prim.Native.Nat.{_+_, _*_, _≤_, _<_};
 ghost use lib.Dec.{T, eqb, ltb};
-ghost use lib.ListN.{length};
+ghost use lib.ListN.{length, set};
 ghost use Rattle.policy.specs.Lists.{every};
 ghost use Rattle.policy.specs.Records.{rowAt};
 ghost use Rattle.policy.specs.Steps.{stepOf, targets, isNext};
@@ -59,6 +59,7 @@ fn marks_at(seen: &[u8], o: usize) -> Here
 
 pub fn mark(seen: &mut [u8], mode: usize, o: usize)
     requires { ⌜ (length (now seen) ≡ markBytes) × (mode < 3) × (o < 64) ⌝ }
+    ensures { λ _. ⌜ now (seen .exit) ≡ set (now (seen .entry)) (64 * mode + o) 1 ⌝ }
     ensures { λ _. ⌜ Adds (now (seen .entry)) (now (seen .exit)) (reaching mode o) ⌝ }
 {
     seen[64 * mode + o] = 1;

@@ -14,6 +14,7 @@ use Rattle.lining.specs.declared.Place.{Place}
 use Rattle.lining.specs.declared.Place.the-variants.{Ends}
 use Rattle.lining.specs.declared.Place.the-variants as place
 use Rattle.spelling.specs.Added.{limit, Added}
+use Rattle.spelling.proofs.AddedLaws.{ends-at, fits}
 use Rattle.lining.specs.Laid.{laid, Laid}
 use Rattle.printing.specs.Printing.{given, Gave}
 
@@ -26,7 +27,7 @@ none-back (y ∷ ys) out e = absurd (omega arith)
 pub given-text : {t before after : Bytes} {end : ℕ} → Added before 0 t after end → length t ≤ length before → Gave (given (text t) before) (Text end) after
 unfolding given
 given-text {t} {before} {after} {end} p h =
-    let f = p .told (omega arith) in
+    let f = fits p (omega arith) in
     let n : end ≡ length t = omega (arith, f .1) in
     rw (given, le-leb (length t) (length before) h) (record { answer = ap Text n; out = f .0 })
 
@@ -40,7 +41,7 @@ pub gave-short : (p : Print) {out back before after : Bytes} {n : ℕ} → back 
 unfolding given laid
 gave-short (text t) {out} {back} e l h =
     let m : length back ≡ length out = ap length e in
-    rw (given, lt-leb (length t) (length out) (omega (arith, l .is .ends (omega arith)))) (record { answer = refl; out = e })
+    rw (given, lt-leb (length t) (length out) (omega (arith, ends-at (l .is) (omega arith)))) (record { answer = refl; out = e })
 gave-short noText e l h = absurd (l .is)
 
 -- and then written
@@ -48,8 +49,8 @@ pub gave-text : (p : Print) {out back before after last : Bytes} {n : ℕ} {r : 
 unfolding given laid
 gave-text (text t) {out} {back} {last = last} {n = n} {r = Ends i} e l h k w =
     let m : length back ≡ length out = ap length e in
-    let q : n ≡ length t = omega (arith, l .is .ends (omega arith)) in
-    let j : i ≡ n = omega (arith, w .is .told (omega arith) .1) in
+    let q : n ≡ length t = omega (arith, ends-at (l .is) (omega arith)) in
+    let j : i ≡ n = omega (arith, fits (w .is) (omega arith) .1) in
     subst₂ (λ (y : ℕ) (z : Bytes). Gave (given (text t) z) (Text y) last) j e (given-text (w .is) (omega arith))
 gave-text (text t) {r = place.NoText} e l h k w = absurd (w .is)
 gave-text noText e l h k w = absurd (l .is)

@@ -1,5 +1,5 @@
 -- Text put into a lent buffer after other text. Assumes nothing.
-use Prim.Native.Nat.{ℕ, _+_, _≤_, min}
+use Prim.Native.Nat.{ℕ, zero, suc, _+_, _-_, _≤_, _<_, min}
 use mathlib.Core.Path.{_≡_}
 use mathlib.Core.Bool.{Bool, true, false}
 use mathlib.Core.List.{List, [], _∷_}
@@ -15,10 +15,18 @@ limit = 9_223_372_036_854_775_808
 abbrev pub reached : ℕ → ℕ
 reached n = min n limit
 
--- `end` is where the text ends that begins at place `at`, and if there is room for it, it stands there.
+-- the place so many bytes on
+unfoldable pub moved : ℕ → ℕ → ℕ
+moved at zero = at
+moved at (suc n) = reached (at + suc n)
+
+-- Of the text that begins at place `at` as much stands there as there is room for, and all else is as it was. `end` is where the text
+-- ends: at its own end if it fits, and else past the buffer's.
 pub record Added (before : Bytes) (at : ℕ) (text after : Bytes) (end : ℕ) : Type 0 where
-  pub ends : at ≤ limit → end ≡ reached (at + length text)
-  pub told : at + length text ≤ length before → (after ≡ put before at text) × (end ≡ at + length text)
+  pub ends : end ≡ moved at (length text)
+  pub told : after ≡ put before at (take (length before - at) text)
+  pub inside : at + length text ≤ length before → end ≡ at + length text
+  pub outside : length before < at + length text → length before ≤ end
 
 -- The buffer begins with these bytes, up to `end`.
 pub record Tells (buffer : Bytes) (end : ℕ) (what : Bytes) : Type 0 where

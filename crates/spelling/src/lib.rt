@@ -1,19 +1,28 @@
-// Text put into a lent buffer, piece after piece. A piece is written where there is room for it, so on no room a text is measured.
+// Text put into a lent buffer, piece after piece. As much of it is written as there is room for, so on no room a text is measured.
 ghost use mathlib.Core.Path.{_≡_};
 ghost use mathlib.Core.List.{[], _∷_};
-ghost use Prim.Native.Nat.{_+_, _<_};
+ghost use Prim.Native.Nat.{_<_, min};
 ghost use Rattle.text.specs.Numerals.{digit, decimal};
 ghost use Rattle.text.specs.Forms.{actions};
 ghost use Rattle.text.specs.Printing.{listing, spaced, argument};
-ghost use Rattle.spelling.specs.Added.{reached, Added, led};
+ghost use Rattle.spelling.specs.Added.{moved, Added, led};
 ghost use Rattle.spelling.specs.Refusal.{refusal};
 use actions::ActionSet;
 
 const LIMIT: usize = 9223372036854775808;
 
-fn reach(at: usize, more: usize) -> usize
-    ensures { λ r. ⌜ r ≡ reached (at + more) ⌝ }
+fn least(a: usize, b: usize) -> usize
+    ensures { λ r. ⌜ r ≡ min a b ⌝ }
 {
+    if a <= b { a } else { b }
+}
+
+fn reach(at: usize, more: usize) -> usize
+    ensures { λ r. ⌜ r ≡ moved at more ⌝ }
+{
+    if more == 0 {
+        return at;
+    }
     if LIMIT <= at {
         return LIMIT;
     }
@@ -28,8 +37,10 @@ pub fn append(out: &mut [u8], at: usize, text: &[u8]) -> usize
     ensures { λ r. ⌜ Added (now (out .entry)) at (now (text .entry)) (now (out .exit)) r ⌝ }
 {
     let end = reach(at, text.len());
-    if end <= out.len() {
-        bytes::copy(text, &mut out[at..]);
+    let room = out.len();
+    if at < room {
+        let part = least(text.len(), room - at);
+        bytes::copy(&text[..part], &mut out[at..]);
     }
     end
 }

@@ -1,4 +1,5 @@
 -- `mark` meets its contract: one store is one mark more. Assumes nothing.
+use mathlib.Core.Path.{refl}
 use borrow.Author.Needs.{needs}
 use Rattle.modes.proofs.Marks.{mark-adds}
 use Rattle.modes.proofs.mark.Statement.{statement}
@@ -17,7 +18,7 @@ same-length : tie.Need-same-length
 same-length c = search needs
 
 returns : tie.Need-returns
-returns c = let p = c .pre in mark-adds _ _ _ (p .0) (p .1) (p .2)
+returns c = let p = c .pre in (refl, mark-adds _ _ _ (p .0) (p .1) (p .2))
 
 pub mark-spec : {M : Type 1} → statement M
 mark-spec = tie.close (tie.spec mul-seen add-seen slice-write-seen same-length returns)

@@ -58,7 +58,7 @@ loop-holds : tie.Need-loop-holds Inv-loop μ-loop
 unfolding Adds reaching EMPTY
 loop-holds c =
     let s = c .before .before .before .before in
-    walk-starts _ _ _ _ _ _ (c .before .mark .ensures [] none-marked) refl (none-possible (s .args .count) (s .pre .1))
+    walk-starts _ _ _ _ _ _ (c .before .mark .ensures .1 [] none-marked) refl (none-possible (s .args .count) (s .pre .1))
 
 returns : tie.Need-returns Inv-loop μ-loop
 unfolding EMPTY
