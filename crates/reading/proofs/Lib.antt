@@ -1,3 +1,4 @@
 pub mod Rows
 pub mod CodeLaws
 mod Words
+pub mod Once

@@ -1,10 +1,12 @@
 -- A record's kind: what it is where the kind byte is known, or known to be none of the kinds. Assumes nothing.
 use Prim.Native.Nat.{ℕ, zero, suc, _+_}
-use mathlib.Core.Path.{_≡_, refl, ap}
+use mathlib.Core.Path.{_≡_, refl, ap, _∙_}
 use Rattle.policy.specs.Bytes.{Bytes, number}
 use Rattle.policy.specs.Records.{Row, rowAt}
 use Rattle.policy.specs.Steps.{Step, next, ok, sup, ins, acase, spend, end, halt, stepOf}
 use Rattle.policy.specs.Tree.{noNode, nodeKind}
+use Rattle.reading.specs.declared.Step as values
+use Rattle.reading.specs.Kinds.{stepMeant, stepValue}
 
 pub none-of-seven : (k : ℕ) → (k ≡ 1 → ⊥) → (k ≡ 2 → ⊥) → (k ≡ 3 → ⊥) → (k ≡ 4 → ⊥) → (k ≡ 5 → ⊥) → (k ≡ 6 → ⊥) → (k ≡ 7 → ⊥) → nodeKind k ≡ noNode
 unfolding nodeKind
@@ -76,3 +78,20 @@ stops-else f r same =
     by-kind (λ k s. (k ≡ 1 → ⊥) → (k ≡ 2 → ⊥) → (k ≡ 3 → ⊥) → (k ≡ 4 → ⊥) → (k ≡ 5 → ⊥) → (k ≡ 6 → ⊥) → f s ≡ f halt) r
     (λ a b c d e g. absurd (a refl)) (λ a b c d e g. absurd (b refl)) (λ a b c d e g. absurd (c refl)) (λ a b c d e g. absurd (d refl))
     (λ a b c d e g. absurd (e refl)) (λ a b c d e g. absurd (g refl)) (λ a b c d e g. same) (λ k a b c d e g. refl)
+
+-- ---- the enum
+
+meant-value : (s : Step) → stepMeant (stepValue s) ≡ s
+unfolding stepMeant stepValue
+meant-value (next t d) = refl
+meant-value (ok t) = refl
+meant-value (sup t) = refl
+meant-value (ins a t) = refl
+meant-value (acase s y z) = refl
+meant-value (spend n y z) = refl
+meant-value end = refl
+meant-value halt = refl
+
+-- the reader's value means the step
+pub step-meant : {x : values.Step} {s : Step} → x ≡ stepValue s → stepMeant x ≡ s
+step-meant {s = s} e = ap stepMeant e ∙ meant-value s

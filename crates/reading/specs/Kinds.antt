@@ -55,3 +55,14 @@ stepMeant (Acase x y z) = acaseOf x y z
 stepMeant (Spend x y z) = spendOf x y z
 stepMeant End = steps.end
 stepMeant Halt = steps.halt
+
+-- the enum's value for a step, which is the one that the reader makes
+unfoldable pub stepValue : steps.Step → Step
+stepValue (steps.next t d) = Next t d
+stepValue (steps.ok t) = Ok t
+stepValue (steps.sup t) = Sup t
+stepValue (steps.ins a t) = Ins (Action a) t
+stepValue (steps.acase s y z) = Acase (Set (record { bits = s })) y z
+stepValue (steps.spend n y z) = Spend (Amount n) y z
+stepValue steps.end = End
+stepValue steps.halt = Halt

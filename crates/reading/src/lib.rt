@@ -7,7 +7,7 @@ ghost use Rattle.policy.specs.Bytes.{number};
 ghost use Rattle.policy.specs.Records.{nodeSize, stepSize, nodePlace, nodeAt, rowAt};
 ghost use Rattle.policy.specs.Steps.{stepOf};
 ghost use Rattle.policy.specs.Tree.{nodeKind};
-ghost use Rattle.reading.specs.Kinds.{kindOf, stepMeant};
+ghost use Rattle.reading.specs.Kinds.{kindOf, stepValue};
 use actions::ActionSet;
 
 pub fn byte(s: &[u8], at: usize) -> u8
@@ -183,7 +183,7 @@ pub enum Step {
 
 pub fn step_at(policy: &[u8], at: usize) -> Step
     requires { ⌜ at + stepSize ≤ length (now policy) ⌝ }
-    ensures { λ r. ⌜ stepMeant r ≡ stepOf (rowAt (now (policy .entry)) at) ⌝ }
+    ensures { λ r. ⌜ r ≡ stepValue (stepOf (rowAt (now (policy .entry)) at)) ⌝ }
 {
     let k = byte(policy, at);
     let first = byte(policy, at + 2);

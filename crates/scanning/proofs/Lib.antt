@@ -1,3 +1,4 @@
 pub mod ScanLaws
 pub mod NumberLaws
 pub mod TakenLaws
+pub mod Once

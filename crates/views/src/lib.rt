@@ -7,7 +7,7 @@ ghost use lib.ListN.{length};
 ghost use Rattle.policy.specs.Records.{frontSize, nodeCount, stepCount, nodeSize, stepSize, nodePlace, nodeAt, rowAt};
 ghost use Rattle.policy.specs.Steps.{stepOf};
 ghost use Rattle.policy.specs.Tree.{nodeKind};
-ghost use Rattle.reading.specs.Kinds.{kindOf, stepMeant};
+ghost use Rattle.reading.specs.Kinds.{kindOf, stepValue};
 use actions::ActionSet;
 use reading::Kind;
 use reading::Step;
@@ -106,14 +106,14 @@ pub fn set<'a>(view: PolicyView<'a>, node: usize) -> ActionSet
 // The steps' records begin where the nodes' end.
 fn step_in(file: &[u8], nodes: usize, number: usize) -> Step
     requires { ⌜ (nodes ≤ 255) × (nodePlace nodes + stepSize * number + stepSize ≤ length (now file)) ⌝ }
-    ensures { λ r. ⌜ stepMeant r ≡ stepOf (rowAt (now (file .entry)) (nodePlace nodes + stepSize * number)) ⌝ }
+    ensures { λ r. ⌜ r ≡ stepValue (stepOf (rowAt (now (file .entry)) (nodePlace nodes + stepSize * number))) ⌝ }
 {
     step_at(file, node_place(nodes) + 12 * number)
 }
 
 pub fn step<'a>(view: PolicyView<'a>, number: usize) -> Step
     requires { ⌜ (view .nodes ≤ 255) × (nodePlace (view .nodes) + stepSize * number + stepSize ≤ length (now (view .file))) ⌝ }
-    ensures { λ r. ⌜ stepMeant r ≡ stepOf (rowAt (now (view .entry .file)) (nodePlace (view .entry .nodes) + stepSize * number)) ⌝ }
+    ensures { λ r. ⌜ r ≡ stepValue (stepOf (rowAt (now (view .entry .file)) (nodePlace (view .entry .nodes) + stepSize * number))) ⌝ }
 {
     step_in(view.file, view.nodes, number)
 }

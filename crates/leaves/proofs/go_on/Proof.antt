@@ -4,6 +4,7 @@ use mathlib.Core.Path.{sym, _∙_}
 use borrow.Author.Needs.{needs}
 use Rattle.reading.specs.Code.{codeAt}
 use Rattle.leaves.proofs.LeafSteps.{of-move}
+use Rattle.reading.proofs.Rows.{step-meant}
 use Rattle.reading.proofs.CodeLaws.{code-length, code-at}
 use Rattle.leaves.proofs.LeafRuns.{in-code, in-count, far, Going, going-first, going-less, going-on, going-ends, past-count, halts-past}
 use Rattle.leaves.proofs.go_on.Statement.{statement}
@@ -43,13 +44,13 @@ add-steps c = let st = c .before .before .before .before .before .before .before
 loop-less : tie.Need-loop-less Inv-loop μ-loop
 loop-less c = let st = c .before .before .before .before .before .before .before .before in let lp = c .before .before .before .before .before in
     let g = lp .loop .inv in
-    going-less (st .pre .1) g (c .before .before .before .before .step-at .ensures ∙ sym (code-at _ _ _ _ (in-count _ _ _ _ (g .in-leaf))))
+    going-less (st .pre .1) g (step-meant (c .before .before .before .before .step-at .ensures) ∙ sym (code-at _ _ _ _ (in-count _ _ _ _ (g .in-leaf))))
     (of-move (c .before .m .given .1) (c .before .before .before .one-step .ensures))
 
 loop-again : tie.Need-loop-again Inv-loop μ-loop
 loop-again c = let st = c .before .before .before .before .before .before .before .before in let lp = c .before .before .before .before .before in
     let g = lp .loop .inv in
-    going-on (st .pre .1) g (c .before .before .before .before .step-at .ensures ∙ sym (code-at _ _ _ _ (in-count _ _ _ _ (g .in-leaf))))
+    going-on (st .pre .1) g (step-meant (c .before .before .before .before .step-at .ensures) ∙ sym (code-at _ _ _ _ (in-count _ _ _ _ (g .in-leaf))))
     (of-move (c .before .m .given .1) (c .before .before .before .one-step .ensures))
 
 add-all : tie.Need-add-all Inv-loop μ-loop
@@ -58,7 +59,7 @@ add-all c = let st = c .before .before .before .before .before .before .before .
 returns-2 : tie.Need-returns-2 Inv-loop μ-loop
 returns-2 c = let st = c .before .before .before .before .before .before .before .before .before in let lp = c .before .before .before .before .before .before in
     let g = lp .loop .inv in record {
-      stops = λ i. going-ends (st .pre .1) g (c .before .before .before .before .before .step-at .ensures ∙ sym (code-at _ _ _ _ (in-count _ _ _ _ (g .in-leaf))))
+      stops = λ i. going-ends (st .pre .1) g (step-meant (c .before .before .before .before .before .step-at .ensures) ∙ sym (code-at _ _ _ _ (in-count _ _ _ _ (g .in-leaf))))
           (of-move (c .before .before .m2 .given .1) (c .before .before .before .before .one-step .ensures)) (c .ran .ensures .0) i;
       less = g .less;
       few = let h = g .room in let k = c .ran .ensures .1 in omega arith;

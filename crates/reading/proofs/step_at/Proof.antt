@@ -4,7 +4,7 @@ use Prim.Native.Nat.{ℕ}
 use borrow.Author.Needs.{needs}
 use Rattle.policy.specs.Records.{rowAt}
 use Rattle.policy.specs.Steps.{Step, next, ok, sup, ins, acase, spend, stepOf}
-use Rattle.reading.specs.Kinds.{stepMeant}
+use Rattle.reading.specs.Kinds.{stepMeant, stepValue}
 use Rattle.reading.proofs.Rows.{of-kind, steps-else}
 use Rattle.reading.proofs.step_at.Statement.{statement}
 use Rattle.reading.proofs.step_at.Tie as tie
@@ -46,47 +46,47 @@ word64-requires-2 : tie.Need-word64-requires-2
 word64-requires-2 c κs = search needs
 
 returns : tie.Need-returns
-unfolding stepMeant stepOf
+unfolding stepMeant stepValue stepOf
 returns c =
-    ap₂ next (c .before .before .byte2 .ensures) (c .before .byte3 .ensures) ∙ of-kind _ _ 1 (sym (c .match .keys1) ∙ c .before .before .before .byte .ensures)
+    ap stepValue (ap₂ next (c .before .before .byte2 .ensures) (c .before .byte3 .ensures) ∙ of-kind _ _ 1 (sym (c .match .keys1) ∙ c .before .before .before .byte .ensures))
 
 returns-2 : tie.Need-returns-2
-unfolding stepMeant stepOf
+unfolding stepMeant stepValue stepOf
 returns-2 c =
-    ap ok (c .before .before .byte2 .ensures) ∙ of-kind _ _ 2 (sym (c .match .keys2) ∙ c .before .before .before .byte .ensures)
+    ap stepValue (ap ok (c .before .before .byte2 .ensures) ∙ of-kind _ _ 2 (sym (c .match .keys2) ∙ c .before .before .before .byte .ensures))
 
 returns-3 : tie.Need-returns-3
-unfolding stepMeant stepOf
+unfolding stepMeant stepValue stepOf
 returns-3 c =
-    ap sup (c .before .before .byte2 .ensures) ∙ of-kind _ _ 3 (sym (c .match .keys3) ∙ c .before .before .before .byte .ensures)
+    ap stepValue (ap sup (c .before .before .byte2 .ensures) ∙ of-kind _ _ 3 (sym (c .match .keys3) ∙ c .before .before .before .byte .ensures))
 
 returns-4 : tie.Need-returns-4
-unfolding stepMeant stepOf
+unfolding stepMeant stepValue stepOf
 returns-4 c =
-    ap₂ ins (c .byte4 .ensures) (c .before .before .before .byte2 .ensures) ∙ of-kind _ _ 4 (sym (c .before .match .keys4) ∙ c .before .before .before .before .byte .ensures)
+    ap stepValue (ap₂ ins (c .byte4 .ensures) (c .before .before .before .byte2 .ensures) ∙ of-kind _ _ 4 (sym (c .before .match .keys4) ∙ c .before .before .before .before .byte .ensures))
 
 returns-5 : tie.Need-returns-5
-unfolding stepMeant stepOf
+unfolding stepMeant stepValue stepOf
 returns-5 c =
-    ap₃ acase (c .word64 .ensures) (c .before .before .before .byte2 .ensures) (c .before .before .byte3 .ensures) ∙ of-kind _ _ 5 (sym (c .before .match .keys5) ∙ c .before .before .before .before .byte .ensures)
+    ap stepValue (ap₃ acase (c .word64 .ensures) (c .before .before .before .byte2 .ensures) (c .before .before .byte3 .ensures) ∙ of-kind _ _ 5 (sym (c .before .match .keys5) ∙ c .before .before .before .before .byte .ensures))
 
 returns-6 : tie.Need-returns-6
-unfolding stepMeant stepOf
+unfolding stepMeant stepValue stepOf
 returns-6 c =
-    ap₃ spend (c .word642 .ensures) (c .before .before .before .byte2 .ensures) (c .before .before .byte3 .ensures) ∙ of-kind _ _ 6 (sym (c .before .match .keys6) ∙ c .before .before .before .before .byte .ensures)
+    ap stepValue (ap₃ spend (c .word642 .ensures) (c .before .before .before .byte2 .ensures) (c .before .before .byte3 .ensures) ∙ of-kind _ _ 6 (sym (c .before .match .keys6) ∙ c .before .before .before .before .byte .ensures))
 
 returns-7 : tie.Need-returns-7
-unfolding stepMeant stepOf
+unfolding stepMeant stepValue stepOf
 returns-7 c =
-    of-kind _ _ 7 (sym (c .match .keys7) ∙ c .before .before .before .byte .ensures)
+    ap stepValue (of-kind _ _ 7 (sym (c .match .keys7) ∙ c .before .before .before .byte .ensures))
 
 returns-8 : tie.Need-returns-8
-unfolding stepMeant rowAt
+unfolding stepMeant stepValue rowAt
 returns-8 c =
     let r = c .match .rest in
     let e = c .before .before .before .byte .ensures in
-    sym (steps-else (rowAt _ _)
-    (λ k. r .0 .0 .0 .0 .0 .0 .1 (e ∙ k)) (λ k. r .0 .0 .0 .0 .0 .1 (e ∙ k)) (λ k. r .0 .0 .0 .0 .1 (e ∙ k)) (λ k. r .0 .0 .0 .1 (e ∙ k)) (λ k. r .0 .0 .1 (e ∙ k)) (λ k. r .0 .1 (e ∙ k)) (λ k. r .1 (e ∙ k)))
+    ap stepValue (sym (steps-else (rowAt _ _)
+    (λ k. r .0 .0 .0 .0 .0 .0 .1 (e ∙ k)) (λ k. r .0 .0 .0 .0 .0 .1 (e ∙ k)) (λ k. r .0 .0 .0 .0 .1 (e ∙ k)) (λ k. r .0 .0 .0 .1 (e ∙ k)) (λ k. r .0 .0 .1 (e ∙ k)) (λ k. r .0 .1 (e ∙ k)) (λ k. r .1 (e ∙ k))))
 
 pub step-at-spec : {M : Type 1} → statement M
 step-at-spec =

@@ -41,7 +41,7 @@ use denote.Triple.Walked.{says, needs, Stays, stay-none, walkOf, goes-none, Walk
 use denote.Exit.{yes}
 use Rattle.policy.specs.Records.{stepSize, nodePlace, rowAt}
 use Rattle.policy.specs.Steps.{stepOf}
-use Rattle.reading.specs.Kinds.{stepMeant}
+use Rattle.reading.specs.Kinds.{stepValue}
 use Rattle.reading.specs.declared.Step.{Step}
 use Rattle.reading.proofs.Step as S
 use Rattle.reading.proofs.Step.Laws as S′
@@ -77,7 +77,7 @@ abbrev Asks : PolicyView → ℕ → Type 0
 Asks d n = (d .nodes ≤ 255) × (nodePlace (d .nodes) + stepSize * n + stepSize ≤ length (now (d .file)))
 
 abbrev Says : PolicyView → ℕ → Step → Type 0
-Says d n r = stepMeant r ≡ stepOf (rowAt (now (d .file)) (nodePlace (d .nodes) + stepSize * n))
+Says d n r = r ≡ stepValue (stepOf (rowAt (now (d .file)) (nodePlace (d .nodes) + stepSize * n)))
 
 module _ {M : Type 1} (𝓤 : URA M) (H : Heap 𝓤) (A : Atoms 𝓤) (W : Given 𝓤 H A) (mem : Memory → SProp 𝓤) (run : Routine → Fun 𝓤) (κ : Lft) (q : Share) (d : PolicyView) (n : ℕ) (n-fits : n < 2 ^ 64) where
   abbrev κs : Lfts 1

@@ -4,6 +4,7 @@ use mathlib.Core.Path.{ap, _∙_}
 use borrow.Author.Needs.{needs}
 use Rattle.policy.specs.Records.{rowAt}
 use Rattle.policy.specs.Steps.{stepOf}
+use Rattle.reading.specs.Kinds.{stepValue}
 use Rattle.views.proofs.step_in.Statement.{statement}
 use Rattle.views.proofs.step_in.Tie as tie
 
@@ -22,7 +23,7 @@ step-at-requires c κs = search needs
 returns : tie.Need-returns
 returns c =
     let a = c .before .before .before .args in
-    c .step-at .ensures ∙ ap (λ (p : ℕ). stepOf (rowAt (a .file .now) (p + 12 * a .number))) (c .before .node-place .ensures)
+    c .step-at .ensures ∙ ap (λ (p : ℕ). stepValue (stepOf (rowAt (a .file .now) (p + 12 * a .number)))) (c .before .node-place .ensures)
 
 pub step-in-spec : {M : Type 1} → statement M
 step-in-spec = tie.close (tie.spec node-place-requires mul-step-at add-step-at step-at-requires returns)
