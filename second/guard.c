@@ -792,10 +792,10 @@ static enum outcome run_leaf(struct run *g, unsigned leaf, unsigned offset, uint
                          ? step[STEP_FIRST]
                          : step[STEP_SECOND];
             break;
-        case SPEND: /* "if counter > n, take n off and go to yes; else go to no" */
+        case SPEND: /* 02, Req 01: "go to its yes target when the counter is at least n" */
             amount = be32(step + STEP_OPERAND + 4);
-            offset = counter > amount ? step[STEP_FIRST] : step[STEP_SECOND];
-            counter -= counter > amount ? amount : 0;
+            offset = counter >= amount ? step[STEP_FIRST] : step[STEP_SECOND];
+            counter -= counter >= amount ? amount : 0;
             break;
         case END: /* "end (ended, accepted)" */
             put_record(record, GUARD_ENDED, 0, 0);

@@ -193,6 +193,7 @@ static void p1_to_p5(void)
     SAYS(offer(&s, 2), "a2 =1");
     SAYS(offer(&s, 2), "a2 =1");
     SAYS(offer(&s, 1), "a1 =1");
+    SAYS(offer(&s, 2), "a2 =1"); /* 02, Req 01: "the fourth 2 halts" */
     SAYS(offer(&s, 2), "=5");
     SAYS(offer(&s, 2), "refused 14");
     SAYS(offer(&s, 64), "refused 13");
@@ -225,6 +226,7 @@ static void p6_to_p11(void)
 
     two(&s.file, 6, 'L', 'U');
     SAYS(open_it(&s), "=1");
+    SAYS(offer(&s, 2), "a2 =1");
     SAYS(offer(&s, 2), "a2 =1");
     SAYS(offer(&s, 2), "a2 =1");
     SAYS(offer(&s, 2), "=5");
@@ -296,7 +298,7 @@ static void guardrun_example(void)
     EXPECT(strcmp(out, "open running\nsup 4\nsup 3\nclose ended\n") == 0);
     one(&s.file, 'L');
     guardrun(&s, more, 5, out);
-    EXPECT(strcmp(out, "open running\nacc 2\nrefused 13\nacc 2\nclose halted\n") == 0);
+    EXPECT(strcmp(out, "open running\nacc 2\nrefused 13\nacc 2\nacc 2\nclose halted\n") == 0);
     two(&s.file, 4, 'V', 'W');
     guardrun(&s, actions, 2, out);
     EXPECT(strcmp(out, "refused 9\n") == 0);

@@ -235,7 +235,7 @@ memory limit: set {10, 11, 12}, counter 20;  # 20 units at the start
 4 spend 4 6/7,        # 4 units
 5 spend 16 6/7,       # a large one: 16 units
 6 ok 0,               # granted
-7 halt,               # the quota would be used up
+7 halt,               # more than is left
 8 end.                # closing: nothing to tidy up
 """
 
@@ -384,9 +384,9 @@ soak: set {1, 2, 3};
 """
 
 REHEATS = """
-reheats: set {5}, counter 3;  # two reheats
+reheats: set {5}, counter 3;  # three reheats
 0 next 1/5,
-1 spend 1 2/3,        # is one left? (the counter must be above 1)
+1 spend 1 2/3,        # is one left?
 2 ok 0,
 3 sup 4,              # no: held back
 4 ins 6 to 0,         # and the load is sent to scrap
@@ -429,8 +429,8 @@ def sample(name, about, commands, policy, run, opens=("running", ""), closes=("e
 
 sample("memory-limit", """
 Document 002's first example, memLimit. Actions have no arguments here, so a request for memory
-comes in three sizes. A request is granted while the counter is above its size (002: `(q-n) > 0`),
-so the last unit is never handed out; the request that would use it up halts the program.
+comes in three sizes. A request is granted while the counter holds it, down to the last unit (002 compares
+strictly, `(q-n) > 0`, and never hands out the last one: 02's Req 01); the request for more than is left halts the program.
 """, {10: "malloc, 1 unit", 11: "malloc, 4 units", 12: "malloc, 16 units", 40: "anything else"},
        MEMORY, [
     (10, "acc 10", "20 units become 19"),
@@ -438,7 +438,8 @@ so the last unit is never handed out; the request that would use it up halts the
     (40, "acc 40", "not regulated: no change"),
     (10, "acc 10", "3 become 2"),
     (10, "acc 10", "2 become 1"),
-    (10, "", "1 is not above 1: halt, with no event"),
+    (10, "acc 10", "the last unit is handed out"),
+    (10, "", "nothing is left: halt, with no event"),
 ], closes=("halted", "", ""), unread=[40])
 
 sample("file-access", """
@@ -471,7 +472,7 @@ what the other touches, so they pass the check side by side. If either halts, al
     (21, "acc 21", ""),
     (23, "acc 23", "A is closed"),
     (23, "sup 23", "not open: held back, and the memory side has no say in it"),
-    (11, "", "3 is not above 4: the memory side halts, so the whole halts"),
+    (11, "", "3 are left and 4 are asked for: the memory side halts, so the whole halts"),
 ], closes=("halted", "", ""), unread=[20])
 
 sample("lax-manager", """
@@ -557,8 +558,8 @@ files open for writing, here two at a time and text files only; what is held bac
 
 sample("brazing-furnace", """
 A furnace that brazes radiators on a belt. Soak: while a load is owed its soak, a belt slowdown is held back;
-it is kept in mind, and once the soak is done the guard gives the command itself. Reheats: two are allowed in
-a run (a counter is never filled up again); a third is held back and the load is sent to scrap. These two touch
+it is kept in mind, and once the soak is done the guard gives the command itself. Reheats: three are allowed in
+a run (a counter is never filled up again); a fourth is held back and the load is sent to scrap. These two touch
 different commands and stand in parallel. Drive stands after both, because it has to see every slowdown that goes out, the guard's own too:
 it lets the burners follow the belt, and holds back a speed command that changes nothing.
 """, {1: "load in, soak owed", 2: "soak done", 3: "slow belt", 4: "full speed", 5: "reheat",
@@ -575,7 +576,8 @@ it lets the burners follow the belt, and holds back a speed command that changes
     (2, "acc 2, ins 3, ins 8", "soak done: the guard slows the belt, the drive sees it, the burners follow"),
     (3, "sup 3", "held back by the drive: slow already"),
     (5, "acc 5", "second reheat"),
-    (5, "sup 5, ins 6", "a third one is too many"),
+    (5, "acc 5", "third reheat: a quota of three means three"),
+    (5, "sup 5, ins 6", "a fourth one is too many"),
     (60, "acc 60", "not regulated"),
     (1, "acc 1", "a soak is owed"),
     (3, "sup 3", "held back"),
@@ -594,12 +596,13 @@ give theirs once more, left first (01's P11). It has ended when both sides have.
 ], closes=("ended", "ins 3, ins 6", ""))
 
 sample("small-parallel-or", """
-01's L beside a leaf E that ends after action 8. L halts at the third 2, alone, and is passed over.
+01's L beside a leaf E that ends after action 8. L halts at the fourth 2, alone, and is passed over.
 When E has ended, the whole has ended right and accepts everything from then on.
-""", {2: "L's action, two allowed", 8: "E's action: after it E has ended"},
+""", {2: "L's action, three allowed", 8: "E's action: after it E has ended"},
        ("parallel or", L, EIGHT), [
     (2, "acc 2", "L's counter: 3 becomes 2"),
     (2, "acc 2", "2 becomes 1"),
+    (2, "acc 2", "1 becomes 0"),
     (2, "acc 2", "L halts, passed over"),
     (8, "acc 8", "E ends: the root has ended right"),
     (2, "acc 2", "an ended root accepts"),
@@ -638,12 +641,13 @@ and the run goes on.
 
 sample("small-unsatisfiable", """
 01's L or the unsatisfiable policy (P8). Unsatisfiable has halted from the start; beside it in an "or" it changes
-nothing, so this is L: the third 2 halts. (Unsatisfiable alone opens halted: see tests/runs/.)
-""", {1: "not regulated", 2: "L's action, two allowed"},
+nothing, so this is L: the fourth 2 halts. (Unsatisfiable alone opens halted: see tests/runs/.)
+""", {1: "not regulated", 2: "L's action, three allowed"},
        ("parallel or", L, UNSATISFIABLE), [
     (1, "acc 1", ""),
     (2, "acc 2", "L's counter: 3 becomes 2"),
     (2, "acc 2", "2 becomes 1"),
+    (2, "acc 2", "1 becomes 0"),
     (2, "", "L halts: both sides have halted"),
 ], closes=("halted", "", ""), unread=[1, 2])
 
@@ -777,31 +781,31 @@ refused(9, "lowest-of-9-10", "a spread above 255 in one place, sides that interf
 # Actions
 run("refused-action", "bytes above 63 are refused 13 and the run goes on", L, [2, 64, 1, 255, 2, 13],
     "open running, acc 2, refused 13, acc 1, refused 13, acc 2, acc 13, close ended")
-run("not-regulated", "actions 0 to 63 but 2 at L: all accepted with no change, then two 2",
-    L, [a for a in range(64) if a != 2] + [2, 2],
-    ["open running"] + [f"acc {a}" for a in range(64) if a != 2] + ["acc 2", "acc 2", "close ended"])
+run("not-regulated", "actions 0 to 63 but 2 at L: all accepted with no change, then three 2",
+    L, [a for a in range(64) if a != 2] + [2, 2, 2],
+    ["open running"] + [f"acc {a}" for a in range(64) if a != 2] + ["acc 2", "acc 2", "acc 2", "close ended"])
 run("0-and-63", "a leaf on actions 0 and 63, the two ends of a set",
     "set {0, 63}; 0 next 1/5, 1 acase {63} 2/3, 2 sup 4, 3 ok 0, 4 ins 0 to 0, 5 ins 63 to 6, 6 end.",
     [0, 63, 1, 62, 63], "open running, acc 0, sup 63, ins 0, acc 1, acc 62, sup 63, ins 0, ins 63, close ended")
-run("own-insert-not-seen", "a leaf isn't shown what it inserts itself: two 3 pass before the third halts",
+run("own-insert-not-seen", "a leaf isn't shown what it inserts itself: three 3 pass before the fourth halts",
     "set {3}, counter 3; 0 next 1/5, 1 spend 1 2/4, 2 ok 3, 3 ins 3 to 0, 4 halt, 5 end.", [3, 3, 3, 3],
-    "open running, acc 3, ins 3, acc 3, ins 3, close halted")
+    "open running, acc 3, ins 3, acc 3, ins 3, acc 3, ins 3, close halted")
 run("own-insert-not-seen-right", "nor on the right of a sequential node; here it inserts before the verdict",
     ("sequential and", L,
      "set {3}, counter 3; 0 next 1/5, 1 spend 1 2/4, 2 ins 3 to 3, 3 ok 0, 4 halt, 5 end."), [3, 2, 3, 3, 3],
-    "open running, ins 3, acc 3, acc 2, ins 3, acc 3, close halted")
-run("spend-greatest", "counter 4,294,967,295: spending all of it is too much, one less is not",
+    "open running, ins 3, acc 3, acc 2, ins 3, acc 3, ins 3, acc 3, close halted")
+run("spend-greatest", "counter 4,294,967,295: all of it is spent at once, and then nothing is left",
     "set {1, 2}, counter 4294967295; 0 next 1/6, 1 acase {1} 2/3, 2 spend 4294967294 4/5, "
     "3 spend 4294967295 4/5, 4 ok 0, 5 sup 0, 6 end.", [2, 1, 1, 2],
-    "open running, sup 2, acc 1, sup 1, sup 2, close ended")
-run("spend-zero", "spend 0: passed as long as the counter is above 0",
+    "open running, acc 2, sup 1, sup 1, sup 2, close ended")
+run("spend-zero", "spend 0: passed whatever the counter is, 0 too",
     ("parallel and", "set {1}; 0 next 1/4, 1 spend 0 2/3, 2 ok 0, 3 sup 0, 4 end.",
      "set {2}, counter 1; 0 next 1/4, 1 spend 0 2/3, 2 ok 0, 3 sup 0, 4 end."), [1, 2, 2, 1],
-    "open running, sup 1, acc 2, acc 2, sup 1, close ended")
+    "open running, acc 1, acc 2, acc 2, acc 1, close ended")
 
 # Halts
-run("halt", "01's P2: the third 2 halts; the bytes after it are not read", L, [1, 2, 2, 1, 2, 2, 64, 1],
-    "open running, acc 1, acc 2, acc 2, acc 1, close halted")
+run("halt", "P2 as 02's Req 01 has it: the fourth 2 halts; the bytes after it are not read", L, [1, 2, 2, 1, 2, 2, 64, 1],
+    "open running, acc 1, acc 2, acc 2, acc 1, acc 2, close halted")
 run("halt-with-events", "002's file access: a forbidden open closes both files, then halts",
     ("parallel and", FILE_A, FILE_B), [20, 24, 28, 20],
     "open running, acc 20, acc 24, ins 23, ins 27, close halted")
@@ -962,7 +966,7 @@ def long_leaf(k, steps, times):
     lines = [f"0 next 1/{steps - 1}"]
     lines += [f"{i} spend 1 {i + 1}/{steps - 2}" for i in range(1, spends + 1)]
     lines += [f"{steps - 3} ok 0", f"{steps - 2} halt", f"{steps - 1} end"]
-    return f"set {{{k}}}, counter {1 + spends * times}; " + ", ".join(lines) + "."
+    return f"set {{{k}}}, counter {spends * times}; " + ", ".join(lines) + "."
 
 
 run("512-steps", "8 leaves of 64 steps: every action passes twice, the third 3 halts",
@@ -973,14 +977,14 @@ run("6646-bytes", "31 nodes and 512 steps, the longest file: 16 leaves of 32 ste
            [long_leaf(k, 32, 3) for k in range(16)]), list(range(16)) * 3,
     ["open running"] + [f"acc {k}" for k in range(16)] * 3 + ["close ended"])
 assert len(RUNS[-1]["input"]) == 6646 + 48
-run("200-actions", "counter 201: two hundred 2 in a row are accepted",
-    L.replace("counter 3", "counter 201"), [2] * 200, ["open running"] + ["acc 2"] * 200 + ["close ended"])
+run("200-actions", "counter 200: two hundred 2 in a row are accepted",
+    L.replace("counter 3", "counter 200"), [2] * 200, ["open running"] + ["acc 2"] * 200 + ["close ended"])
 
 
 def furnace_by_hand(actions):
     """The furnace's two-line rules once more, as plain Python."""
     owed = waiting = slow = False
-    reheats, lines = 2, ["open running"]
+    reheats, lines = 3, ["open running"]
 
     def belt_slows(word):
         nonlocal slow

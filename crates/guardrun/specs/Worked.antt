@@ -20,7 +20,7 @@ cases =
     -- "those of closing before the close line"
     ∷ record { input = alone «V» ++ (4 ∷ []); prints = "open running\nsup 4\nins 3\nins 3\nclose ended\n" }
     -- "a refused action prints that line and goes on"; "On a halt it stops reading": the last 1 is not read
-    ∷ record { input = alone L ++ (2 ∷ 2 ∷ 64 ∷ 2 ∷ 1 ∷ []); prints = "open running\nacc 2\nacc 2\nrefused 13\nclose halted\n" }
+    ∷ record { input = alone L ++ (2 ∷ 2 ∷ 2 ∷ 64 ∷ 2 ∷ 1 ∷ []); prints = "open running\nacc 2\nacc 2\nacc 2\nrefused 13\nclose halted\n" }
     ∷ record { input = alone bottom ++ (1 ∷ []); prints = "open halted\nclose halted\n" }
     -- an ended root still reads on
     ∷ record { input = pair 6 L top ++ (2 ∷ 64 ∷ []); prints = "open right\nacc 2\nrefused 13\nclose right\n" }

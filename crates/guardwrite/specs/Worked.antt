@@ -19,7 +19,7 @@ unfoldable pub cases : List Case
 unfolding says built
 cases =
     -- files
-    record { text = ascii "# two 2s\nleaf {2} 3\n  next 1 4\n  spend 1 2 3\n  ok 0\n  halt\n  end\n"; makes = alone L }
+    record { text = ascii "# three 2s\nleaf {2} 3\n  next 1 4\n  spend 1 2 3\n  ok 0\n  halt\n  end\n"; makes = alone L }
     ∷ record {
       text = ascii "seq-and 1 2\nleaf {4} 0\r\n\tnext 1 3\n\tsup 2\n\tins 3 0\n\tins 3 4\n\tend\nleaf { 3 } 0\n\tnext 1 2\n\tsup 0\n\tend";
       makes = pair 5 «V» W;

@@ -60,11 +60,11 @@ const NOWHERE: Place = Place {
     counter: 0,
 };
 
-// "Spend compares strictly."
+// "Spend shall go to its yes target when the counter is at least n."
 fn affords(counter: u64, amount: u64) -> bool
     ensures { λ r. ⌜ r ≡ affords counter amount ⌝ }
 {
-    counter > amount
+    counter >= amount
 }
 
 fn inserts(x: Operand, to: u8, counter: u64) -> Move

@@ -6,7 +6,7 @@ use mathlib.Core.List.{List, [], _∷_, _++_, map}
 use lib.ListN.{replicate}
 use Rattle.policy.specs.Bytes.{Bytes}
 use Rattle.policy.specs.Tree.{Tree, tree}
-use Rattle.policy.specs.Parts.{Part, next, ok, sup as sups, ins as inserts, end, halt, leafOf, top, bottom, alone, pair, L, «V», V′, W, F, built}
+use Rattle.policy.specs.Parts.{Part, next, ok, sup as sups, ins as inserts, spend, end, halt, leafOf, top, bottom, alone, pair, L, «V», V′, W, F, built}
 use Rattle.rules.specs.Check.{passes}
 use Rattle.turns.specs.Status.{running, ended, endedLeft, endedRight, halted}
 use Rattle.turns.specs.Process.{items, trace, outcome}
@@ -65,12 +65,17 @@ unfoldable pub X₃ : Part
 unfolding built
 X₃ = leafOf (3 ∷ []) 0 (next 1 3 ∷ inserts 5 2 ∷ halt ∷ end ∷ [])
 
+-- spends nothing on 1, from a counter of 0
+unfoldable pub Z₁ : Part
+unfolding built
+Z₁ = leafOf (1 ∷ []) 0 (next 1 4 ∷ spend 0 2 3 ∷ ok 0 ∷ halt ∷ end ∷ [])
+
 -- a file of which only the calls are told
 unfoldable pub runs : Bytes → ℕ → ℕ → ℕ → List Request → List Heard → Case
 runs file size r e qs heard = record { policy = file; requests = qs; told = record { size = size; answer = passes r e; heard = heard } }
 
 unfoldable pub readings : List Case
-unfolding T₄ S₄ G₁ E₃ E₄ H₃ A₄ B₄ A₃ X₃ runs says acc sup ins built
+unfolding T₄ S₄ G₁ E₃ E₄ H₃ A₄ B₄ A₃ X₃ Z₁ runs says acc sup ins built
 readings =
     -- Inserts are streamed: the left waits, and counts as running until its part is over.
     runs (pair 5 T₄ top) 114 16 72 (opening ∷ close ∷ []) (says running [] ∷ says ended (ins 3 ∷ ins 6 ∷ []) ∷ [])
@@ -110,6 +115,8 @@ readings =
     ∷ runs (pair 7 W «V») 150 24 24 (opening ∷ close ∷ []) (says running [] ∷ says endedLeft [] ∷ [])
     -- "A lone halted side is passed over: it accepts everything."
     ∷ runs (pair 7 H₃ W) 126 8 8 (opening ∷ offer 3 ∷ offer 3 ∷ []) (says running [] ∷ says running (sup 3 ∷ []) ∷ says running (sup 3 ∷ []) ∷ [])
+    -- A counter of 0 is at least 0, so that spending nothing is always granted.
+    ∷ runs (alone Z₁) 82 2 0 (opening ∷ offer 1 ∷ []) (says running [] ∷ says running (acc 1 ∷ []) ∷ [])
     -- "So is any action once the root has ended." "Closing a decided root emits nothing and answers its status."
     ∷ runs (alone E₃) 58 8 0 (opening ∷ offer 3 ∷ offer 3 ∷ offer 63 ∷ close ∷ [])
     (says running [] ∷ says ended (acc 3 ∷ []) ∷ says ended (acc 3 ∷ []) ∷ says ended (acc 63 ∷ []) ∷ says ended [] ∷ [])

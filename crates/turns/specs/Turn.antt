@@ -2,7 +2,7 @@
 use Prim.Native.Nat.{ℕ, zero, suc, _-_}
 use mathlib.Core.Bool.{Bool, true, false, _&&_, _||_, not}
 use mathlib.Core.List.{List}
-use lib.Dec.{ltb}
+use lib.Dec.{leb}
 use lib.ListN.{length, getD}
 use Rattle.actions.specs.Sets.{Action, ActionSet, EMPTY, has}
 use Rattle.policy.specs.Steps.{Step, next, ok, sup, ins, acase, spend, end, halt}
@@ -27,9 +27,9 @@ quiet s = stop (record { state = s; suppressed = false })
 
 -- ---- a leaf
 
--- "if counter > n": "Spend compares strictly".
+-- Document 02, request 01: "Spend shall go to its yes target when the counter is at least n." (Document 01 compared strictly.)
 unfoldable pub affords : ℕ → ℕ → Bool
-affords c n = ltb n c
+affords c n = leb n c
 
 unfoldable pub which : Bool → ℕ → ℕ → ℕ
 which true y z = y

@@ -74,10 +74,11 @@ offersBelow (suc n) = offer n ∷ offersBelow n
 unfoldable pub cases : List Case
 unfolding acc sup ins says refusesWith offersBelow built
 cases =
-    -- "P1 L file: 82 bytes, sets {2} and empty." "P2 L on 1, 2, 2, 1: all accepted; a further 2 halts."
+    -- "P1 L file: 82 bytes, sets {2} and empty." "P2 L on 1, 2, 2, 1: all accepted; a further 2 halts.", as request 01 changes it: "the
+    -- fourth 2 halts".
     record {
       policy = alone L;
-      requests = opening ∷ offer 1 ∷ offer 2 ∷ offer 2 ∷ offer 1 ∷ offer 2 ∷ [];
+      requests = opening ∷ offer 1 ∷ offer 2 ∷ offer 2 ∷ offer 1 ∷ offer 2 ∷ offer 2 ∷ [];
       told = record {
         size = 82;
         answer = passes 4 0;
@@ -86,6 +87,7 @@ cases =
             ∷ says running (acc 2 ∷ [])
             ∷ says running (acc 2 ∷ [])
             ∷ says running (acc 1 ∷ [])
+            ∷ says running (acc 2 ∷ [])
             ∷ says halted []
             ∷ [];
       };
@@ -113,14 +115,14 @@ cases =
       requests = opening ∷ offer 4 ∷ [];
       told = record { size = 150; answer = passes 24 24; heard = says running [] ∷ says running (sup 4 ∷ ins 3 ∷ []) ∷ [] };
     }
-    -- "P8 L or unsatisfiable (parallel): halts on the third 2."
+    -- "P8 L or unsatisfiable (parallel): halts on the third 2.", as request 01 changes it: "the fourth 2 halts".
     ∷ record {
       policy = pair 6 L bottom;
-      requests = opening ∷ offer 2 ∷ offer 2 ∷ offer 2 ∷ [];
+      requests = opening ∷ offer 2 ∷ offer 2 ∷ offer 2 ∷ offer 2 ∷ [];
       told = record {
         size = 114;
         answer = passes 4 0;
-        heard = says running [] ∷ says running (acc 2 ∷ []) ∷ says running (acc 2 ∷ []) ∷ says halted [] ∷ [];
+        heard = says running [] ∷ says running (acc 2 ∷ []) ∷ says running (acc 2 ∷ []) ∷ says running (acc 2 ∷ []) ∷ says halted [] ∷ [];
       };
     }
     -- "P9 L or trivial (parallel): opens ended right; 2, 2, 2 accepted."

@@ -1,7 +1,7 @@
 -- `spends` meets its contract. Assumes nothing.
 use native.Mathlib.Omega.{arith}
 use mathlib.Core.Path.{ap, sym, _∙_}
-use borrow.Author.Tests.{ltb-true}
+use borrow.Author.Tests.{leb-true}
 use Rattle.turns.specs.Turn.{affords}
 use Rattle.reading.specs.Kinds.{spendOf}
 use Rattle.reading.specs.declared.Operand.{Operand}
@@ -15,7 +15,7 @@ unfolding affords
 sub-rest c =
     omega (
       arith,
-      ltb-true (c .before .before .before .x .given .0 .0) (c .before .before .before .before .before .args .counter)
+      leb-true (c .before .before .before .x .given .0 .0) (c .before .before .before .before .before .args .counter)
           (sym (c .before .affords .ensures) ∙ c .if1 .taken),
     )
 
