@@ -1,22 +1,21 @@
 -- P11 closed right side first: the order by computation, what is said of it by the third demand. Assumes nothing.
-use Prim.Native.Nat.{ℕ}
-use mathlib.Core.Path.{_≡_, refl, subst, _∙_}
+use mathlib.Core.Path.{_≡_, refl, sym, subst, _∙_}
 use mathlib.Core.List.{List, [], _∷_}
-use lib.Dec.{T}
+use lib.ListN.{length}
 use Rattle.policy.specs.Parts.{built}
 use Rattle.policy.specs.Tree.{tree}
-use Rattle.rules.specs.Check.{check, passes}
-use Rattle.turns.specs.Status.{running}
-use Rattle.turns.specs.Process.{Item, Process, stop, outcome, trace, items}
+use Rattle.turns.specs.Status.{running, ended}
+use Rattle.turns.specs.Process.{stop, outcome}
 use Rattle.turns.specs.Turn.{opening, close}
-use Rattle.turns.specs.Events.{Event, events, stepsRun}
+use Rattle.turns.specs.Events.{events}
+use Rattle.turns.specs.State.{status}
 use Rattle.turns.specs.Saved.{saved}
-use Rattle.turns.specs.Entries.{answers, entry, opens}
-use Rattle.orders.specs.Orders.{clear, acts, onLeft, onRight, meet, Order, start, then, Told, only, ofLeaf, isVerdict, insertsOf}
+use Rattle.turns.specs.Entries.{Reply, answers, entry}
+use Rattle.orders.specs.Orders.{clear, acts, onLeft, onRight, meet, Order, start, then, only, isVerdict}
 use Rattle.orders.specs.Demand.{noParallel, premise}
 use Rattle.orders.specs.Premise.{closingItems}
 use Rattle.orders.specs.Runs.{asked, Runs, over, ranThen, AllAgree, Agree, AnyCommands}
-use Rattle.orders.specs.RightFirst.{P11, room, unopened, closesIt, rightFirst, requests, gave, RightFirst}
+use Rattle.orders.specs.RightFirst.{P11, room, unopened, afterOpening, closesIt, rightFirst, requests, gave, RightFirst}
 use Rattle.orders.proofs.Runs.{any-commands}
 
 -- every definition that the example computes with
@@ -25,7 +24,7 @@ unfolding Rattle.turns.specs.Opened.opened Rattle.rules.specs.Opened.opened Ra
 opened = tt
 
 unfoldable worked : Unit {0}
-unfolding opened built clear noParallel premise asked closingItems P11 room unopened closesIt rightFirst requests gave
+unfolding opened built clear noParallel premise asked closingItems P11 room unopened afterOpening rightFirst requests gave
 worked = tt
 
 demand : AnyCommands P11 room
@@ -43,27 +42,44 @@ opens-so : Order (asked P11 opening unopened) [] 1 (stop (outcome (asked P11 ope
 unfolding worked
 opens-so = then meet start
 
-run : Runs P11 room unopened requests gave (saved (tree P11) (outcome closesIt .state))
+opens-to : entry P11 opening unopened room .reply ≡ answers 0 running
 unfolding worked
-run = ranThen {k = 0} {s = running} refl opens-so (ranThen {k = 2} refl order over)
+opens-to = refl
+
+closes-to : entry P11 close afterOpening room .reply ≡ answers 2 ended
+unfolding worked
+closes-to = refl
+
+-- The replies as a run gives them. They are computed once, in `values`: compared while a run is built, they are computed at each step.
+abbrev told-so : List Reply
+told-so = answers (length (events [])) (status (outcome (asked P11 opening unopened) .state)) ∷ answers (length (events rightFirst)) (status (outcome closesIt .state)) ∷ []
+
+unfoldable ran : Runs P11 room unopened (opening ∷ close ∷ []) told-so (saved (tree P11) (outcome closesIt .state))
+unfolding afterOpening
+ran = ranThen opens-to opens-so (ranThen closes-to order over)
+
+values : told-so ≡ gave
+unfolding worked
+values = refl
 
 agrees : Agree (tree P11) closesIt rightFirst
-unfolding AllAgree worked run
-agrees = demand .all-agree run .1 .0
+unfolding AllAgree ran afterOpening
+agrees = demand .all-agree ran .1 .0
 
 pub right-first : RightFirst
 unfolding worked only isVerdict
 right-first = record {
+  opened = refl;
   order = order;
   seen = refl;
   rules-give = refl;
-  run = run;
-  replied = demand .any-run run .0;
-  left = demand .any-run run .1;
+  run = subst (λ rs. Runs P11 room unopened requests rs (saved (tree P11) (outcome closesIt .state))) values ran;
+  replied = sym values ∙ demand .any-run ran .0;
+  left = demand .any-run ran .1;
   told = agrees .told;
   verdict = agrees .verdict;
   leaves = agrees .leaves;
   inserts = agrees .inserts;
   steps = agrees .steps;
-  completes = λ o. demand .completes (opens P11 unopened room .state) close {k = 2} refl o;
+  completes = λ o. demand .completes afterOpening close {k = 2} refl o;
 }

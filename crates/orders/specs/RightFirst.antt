@@ -27,9 +27,13 @@ room = replicate eventRoom 0
 unfoldable pub unopened : Bytes
 unopened = replicate stateSize 0
 
-unfoldable pub closesIt : Process
-unfolding P11 unopened room asked
-closesIt = asked P11 close (opens P11 unopened room .state)
+-- the state that opening leaves, by the turn rules
+unfoldable pub afterOpening : Bytes
+unfolding P11 unopened asked
+afterOpening = saved (tree P11) (outcome (asked P11 opening unopened) .state)
+
+abbrev pub closesIt : Process
+closesIt = asked P11 close afterOpening
 
 -- all that the right leaf does, then all that the left leaf does
 unfoldable pub rightFirst : List Item
@@ -44,6 +48,7 @@ unfoldable pub gave : List Reply
 gave = answers 0 running ∷ answers 2 ended ∷ []
 
 pub record RightFirst : Type 0 where
+  pub opened : opens P11 unopened room .state ≡ afterOpening
   -- It is an order of that closing, and not demand 2's: insert 6 comes out before insert 3.
   pub order : Order closesIt rightFirst 9 (stop (outcome closesIt))
   pub seen : events rightFirst ≡ inserted 6 ∷ inserted 3 ∷ []
