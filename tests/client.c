@@ -136,7 +136,8 @@ static const uint8_t L[] = {
     7, 0, 0, 0, 0, 0, 0, 0, 0, 0, 0, 0,
 };
 
-/* P1 and P2 of 01: "82 bytes, sets {2} and empty"; "L on 1, 2, 2, 1: all accepted; a further 2 halts." Then refusal 14. */
+/* P1 and P2 of 01, with request 01: "82 bytes, sets {2} and empty"; "L on 1, 2, 2, 1: all accepted", and a third 2; "the fourth 2 halts".
+   Then refusal 14. */
 static void small_calls(void)
 {
     uint8_t saved[FRETMERE_STATE_BYTES], room[FRETMERE_EVENT_BYTES];
@@ -147,13 +148,13 @@ static void small_calls(void)
     expect(fretmere_check(L, sizeof L - 1, &regulated, &effects) == FRETMERE_LENGTH, "a byte short");
     answer = fretmere_open(L, sizeof L, saved, sizeof saved, room, sizeof room);
     expect(fretmere_status(answer) == FRETMERE_RUNNING && fretmere_events(answer) == 0, "P2, opening");
-    for (const char *a = "\1\2\2\1"; *a != '\0'; a++) {
+    for (const char *a = "\1\2\2\1\2"; *a != '\0'; a++) {
         answer = fretmere_offer(L, sizeof L, saved, sizeof saved, room, sizeof room, (uint8_t)*a);
         expect(fretmere_status(answer) == FRETMERE_RUNNING && fretmere_events(answer) == 1, "P2, an answer");
         expect(room[0] == FRETMERE_ACCEPTED && room[1] == (uint8_t)*a, "P2, an event");
     }
     answer = fretmere_offer(L, sizeof L, saved, sizeof saved, room, sizeof room, 2);
-    expect(fretmere_status(answer) == FRETMERE_HALTED && fretmere_events(answer) == 0, "P2, the further 2");
+    expect(fretmere_status(answer) == FRETMERE_HALTED && fretmere_events(answer) == 0, "P2, the fourth 2");
     answer = fretmere_offer(L, sizeof L, saved, sizeof saved, room, sizeof room, 2);
     expect(fretmere_refusal(answer) == FRETMERE_ROOT_HALTED && fretmere_events(answer) == 0, "a halted root");
     answer = fretmere_open(L, sizeof L, saved, sizeof saved, room, sizeof room - 1);
