@@ -6,16 +6,16 @@ use Rattle.policy.specs.Parts.{built}
 use Rattle.policy.specs.Tree.{tree}
 use Rattle.turns.specs.Status.{running, ended}
 use Rattle.turns.specs.Process.{stop, outcome}
-use Rattle.turns.specs.Turn.{opening, close}
+use Rattle.turns.specs.Turn.{opening, offer, close}
 use Rattle.turns.specs.Events.{events}
 use Rattle.turns.specs.State.{status}
 use Rattle.turns.specs.Saved.{saved}
-use Rattle.turns.specs.Entries.{Reply, answers, entry}
+use Rattle.turns.specs.Entries.{Reply, answers, refuses, entry}
 use Rattle.orders.specs.Orders.{clear, acts, onLeft, onRight, meet, Order, start, then, only, isVerdict}
 use Rattle.orders.specs.Demand.{noParallel, premise}
 use Rattle.orders.specs.Premise.{closingItems}
-use Rattle.orders.specs.Runs.{asked, Runs, over, ranThen, AllAgree, Agree, AnyCommands}
-use Rattle.orders.specs.RightFirst.{P11, room, unopened, afterOpening, closesIt, rightFirst, requests, gave, RightFirst}
+use Rattle.orders.specs.Runs.{asked, Runs, over, refusedThen, ranThen, AllAgree, Agree, AnyCommands}
+use Rattle.orders.specs.RightFirst.{P11, room, unopened, afterOpening, afterRefusal, closesIt, rightFirst, requests, gave, RightFirst}
 use Rattle.orders.proofs.Runs.{any-commands}
 
 -- every definition that the example computes with
@@ -24,7 +24,7 @@ unfolding Rattle.turns.specs.Opened.opened Rattle.rules.specs.Opened.opened Ra
 opened = tt
 
 unfoldable worked : Unit {0}
-unfolding opened built clear noParallel premise asked closingItems P11 room unopened afterOpening rightFirst requests gave
+unfolding opened built clear noParallel premise asked closingItems P11 room unopened afterOpening afterRefusal rightFirst requests gave
 worked = tt
 
 demand : AnyCommands P11 room
@@ -46,34 +46,40 @@ opens-to : entry P11 opening unopened room .reply ≡ answers 0 running
 unfolding worked
 opens-to = refl
 
-closes-to : entry P11 close afterOpening room .reply ≡ answers 2 ended
+refused : entry P11 (offer 64) afterOpening room .reply ≡ refuses 13
+unfolding worked
+refused = refl
+
+closes-to : entry P11 close afterRefusal room .reply ≡ answers 2 ended
 unfolding worked
 closes-to = refl
 
 -- The replies as a run gives them. They are computed once, in `values`: compared while a run is built, they are computed at each step.
 abbrev told-so : List Reply
-told-so = answers (length (events [])) (status (outcome (asked P11 opening unopened) .state)) ∷ answers (length (events rightFirst)) (status (outcome closesIt .state)) ∷ []
+told-so = answers (length (events [])) (status (outcome (asked P11 opening unopened) .state)) ∷ refuses 13 ∷ answers (length (events rightFirst)) (status (outcome closesIt .state)) ∷ []
 
-unfoldable ran : Runs P11 room unopened (opening ∷ close ∷ []) told-so (saved (tree P11) (outcome closesIt .state))
-unfolding afterOpening
-ran = ranThen opens-to opens-so (ranThen closes-to order over)
+unfoldable ran : Runs P11 room unopened (opening ∷ offer 64 ∷ close ∷ []) told-so (saved (tree P11) (outcome closesIt .state))
+unfolding afterOpening afterRefusal
+ran = ranThen opens-to opens-so (refusedThen refused (ranThen closes-to order over))
 
 values : told-so ≡ gave
 unfolding worked
 values = refl
 
 agrees : Agree (tree P11) closesIt rightFirst
-unfolding AllAgree ran afterOpening
+unfolding AllAgree ran afterOpening afterRefusal
 agrees = demand .all-agree ran .1 .0
 
 pub right-first : RightFirst
 unfolding worked only isVerdict
 right-first = record {
   opened = refl;
+  unchanged = refl;
   order = order;
   seen = refl;
   rules-give = refl;
   run = subst (λ rs. Runs P11 room unopened requests rs (saved (tree P11) (outcome closesIt .state))) values ran;
+  own = demand .own-run unopened requests;
   replied = sym values ∙ demand .any-run ran .0;
   left = demand .any-run ran .1;
   told = agrees .told;
@@ -81,5 +87,5 @@ right-first = record {
   leaves = agrees .leaves;
   inserts = agrees .inserts;
   steps = agrees .steps;
-  completes = λ o. demand .completes afterOpening close {k = 2} refl o;
+  completes = λ o. demand .completes afterRefusal close {k = 2} refl o;
 }

@@ -9,10 +9,10 @@ use Rattle.policy.specs.Parts.{pair, «V», V′, built}
 use Rattle.policy.specs.Tree.{tree}
 use Rattle.turns.specs.Status.{running, ended}
 use Rattle.turns.specs.Process.{Item, Process, stop, outcome, trace, items}
-use Rattle.turns.specs.Turn.{Request, opening, close}
+use Rattle.turns.specs.Turn.{Request, opening, offer, close}
 use Rattle.turns.specs.Events.{inserted, events, stepsRun}
 use Rattle.turns.specs.Saved.{stateSize, saved}
-use Rattle.turns.specs.Entries.{Reply, answers, eventRoom, opens}
+use Rattle.turns.specs.Entries.{Reply, answers, refuses, eventRoom, entry, opens}
 use Rattle.orders.specs.Orders.{Order, Told, only, ofLeaf, isVerdict, insertsOf}
 use Rattle.orders.specs.Premise.{closingItems}
 use Rattle.orders.specs.Runs.{asked, Runs, replies, lastState, Ends}
@@ -32,28 +32,37 @@ unfoldable pub afterOpening : Bytes
 unfolding P11 unopened asked
 afterOpening = saved (tree P11) (outcome (asked P11 opening unopened) .state)
 
+-- what a refused call leaves: there is no action 64
+unfoldable pub afterRefusal : Bytes
+unfolding P11 room afterOpening
+afterRefusal = entry P11 (offer 64) afterOpening room .state
+
 abbrev pub closesIt : Process
-closesIt = asked P11 close afterOpening
+closesIt = asked P11 close afterRefusal
 
 -- all that the right leaf does, then all that the left leaf does
 unfoldable pub rightFirst : List Item
 unfolding closingItems
 rightFirst = closingItems 2 6 ++ closingItems 1 3
 
--- opening, and then closing so
+-- opening, a refused call, and then closing so
 unfoldable pub requests : List Request
-requests = opening ∷ close ∷ []
+requests = opening ∷ offer 64 ∷ close ∷ []
 
 unfoldable pub gave : List Reply
-gave = answers 0 running ∷ answers 2 ended ∷ []
+gave = answers 0 running ∷ refuses 13 ∷ answers 2 ended ∷ []
 
 pub record RightFirst : Type 0 where
+  -- Opening leaves `afterOpening`, and the refused call leaves it as it is.
   pub opened : opens P11 unopened room .state ≡ afterOpening
+  pub unchanged : afterRefusal ≡ afterOpening
   -- It is an order of that closing, and not demand 2's: insert 6 comes out before insert 3.
   pub order : Order closesIt rightFirst 9 (stop (outcome closesIt))
   pub seen : events rightFirst ≡ inserted 6 ∷ inserted 3 ∷ []
   pub rules-give : events (items (trace closesIt)) ≡ inserted 3 ∷ inserted 6 ∷ []
   pub run : Runs P11 room unopened requests gave (saved (tree P11) (outcome closesIt .state))
+  -- So are demand 2's own calls, left side first.
+  pub own : Runs P11 room unopened requests (replies P11 room unopened requests) (lastState P11 room unopened requests)
   -- The third demand, of this run: the replies and the state are demand 2's;
   pub replied : gave ≡ replies P11 room unopened requests
   pub left : saved (tree P11) (outcome closesIt .state) ≡ lastState P11 room unopened requests
