@@ -10,7 +10,7 @@ use mathlib.Core.Logic.{_⊎_}
 use borrow.Author.Tests.{leb-true, leb-false, lt-leb, le-leb, eq-eqb, ne-eqb, ltb-true, ltb-false}
 use lib.Arith.{bin-ind}
 use lib.Pow.{pow-pos, pow-lt, pow-add, shr-shr, shr-lt}
-use lib.Dec.{T, leb, eqb, ltb, eqb→eq, eqb-refl, T-not, not-T}
+use lib.Dec.{T, leb, eqb, ltb, leb→le, eqb→eq, eqb-refl, T-not, not-T}
 use lib.Bits.{bitAnd, bitOr, bitXor, and-shr, and-mod, and-le-l, or-shr, or-mod, or-lt, or-zero-r, xor-shr, xor-mod}
 use Rattle.actions.proofs.Tests.{of-yes, no-of, and-intro, and-left, and-right, or-left, or-right, or-cases, not-false, twice, twice-back, both}
 use Rattle.actions.specs.Sets.{ActionSet, isAction, has, EMPTY, single, union, common, difference, isEmpty, within, meets}
@@ -29,6 +29,11 @@ has-bit s a = refl
 pub has-action : (s : ActionSet) (a : ℕ) → a ≤ 63 → has s a ≡ eqb (s / 2 ^ a % 2) 1
 unfolding has isAction
 has-action s a h = ap (λ (p : Bool). p && eqb (s / 2 ^ a % 2) 1) (le-leb a 63 h)
+
+-- a set has none but actions
+pub has-low : (s : ActionSet) (a : ℕ) → has s a ≡ true → a < 64
+unfolding has isAction
+has-low s a e = omega (arith, leb→le a 63 (and-left (leb a 63) _ (of-yes (has s a) e)))
 
 pub has-none : (s : ActionSet) (a : ℕ) → 63 < a → has s a ≡ false
 unfolding has isAction

@@ -27,8 +27,8 @@ use reading::node_start;
 use reading::word16;
 use reading::word32;
 use reading::word64;
-use sides::has_ended;
-use sides::is_halted;
+use turn_sides::has_ended;
+use turn_sides::is_halted;
 
 // ---- one record of the state
 
@@ -198,19 +198,18 @@ fn zeros_kept(state: &[u8], n: usize) -> bool
     true
 }
 
-// All records from n on, each read as one number.
+// All bytes from record n on, joined: a compiler takes many at once, where a test of each goes one by one.
 fn rest_empty(state: &[u8], n: usize) -> bool
     requires { ⌜ (length (now state) ≡ stateSize) × (n ≤ mostNodes) ⌝ }
     ensures { λ r. ⌜ r ≡ every (λ b. eqb b 0) (drop (cellPlace n) (now (state .entry))) ⌝ }
 {
-    let mut k = n;
-    while k < 31 {
-        if word64(state, 8 * k) != 0 {
-            return false;
-        }
-        k += 1;
+    let mut all = 0;
+    let mut i = 8 * n;
+    while i < 248 {
+        all |= byte(state, i);
+        i += 1;
     }
-    true
+    all == 0
 }
 
 pub fn fits(policy: &[u8], n: usize, m: usize, state: &[u8]) -> bool

@@ -8,9 +8,9 @@ use Rattle.turns.specs.Status.{statusNumber}
 use Rattle.turns.specs.Turn.{Request}
 use Rattle.turns.specs.Entries.{Reply, answers, refuses, entry}
 use Rattle.conduct.proofs.Bounds.{answered-emits}
-use Rattle.answering.specs.declared.Answer as guard
-use Rattle.answering.specs.declared.Answer.the-variants.{Answered, Refused}
-use Rattle.answering.specs.Replies.{spoken}
+use Rattle.call_answer.specs.declared.Answer as guard
+use Rattle.call_answer.specs.declared.Answer.the-variants.{Answered, Refused}
+use Rattle.call_answer.specs.Replies.{spoken}
 use Rattle.files.specs.Writing as writing
 use Rattle.writing.specs.Replies as replies
 use Rattle.writing.specs.declared.Written.the-variants as written

@@ -5,8 +5,8 @@ use Rattle.policy.specs.Bytes.{Bytes}
 use Rattle.rules.specs.Check.{Answer, passes, refused}
 use Rattle.turns.specs.Status.{statusNumber}
 use Rattle.turns.specs.Entries.{Reply, answers, refuses, Result}
-use Rattle.answering.specs.declared.Answer as guard
-use Rattle.answering.specs.declared.Answer.the-variants.{Answered, Refused}
+use Rattle.call_answer.specs.declared.Answer as guard
+use Rattle.call_answer.specs.declared.Answer.the-variants.{Answered, Refused}
 use Rattle.files.specs.Writing as writing
 
 -- The check: zero and both sets, or the refusal's number, and then both stay as they were.

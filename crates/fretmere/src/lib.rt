@@ -2,11 +2,11 @@
 ghost use mathlib.Core.Path.{_≡_};
 ghost use Rattle.rules.specs.Check.{check};
 ghost use Rattle.turns.specs.Entries.{Reply, opens, offers, closes};
-ghost use Rattle.answering.specs.Replies.{spoken};
+ghost use Rattle.call_answer.specs.Replies.{spoken};
 ghost use Rattle.files.specs.Writing as writing;
 ghost use Rattle.writing.specs.Replies as replies;
 ghost use Rattle.fretmere.specs.Words.{Says, refusalWord, Few, word, Gave, sizeWord, Produced};
-use answering::Answer;
+use call_answer::Answer;
 use checking::Checked;
 use checking::check;
 use guard::close;

@@ -15,11 +15,11 @@ use Rattle.turns.specs.Turn.{Request, close}
 use Rattle.turns.specs.Saved.{fits}
 use Rattle.turns.specs.Entries.{Result, refusal, carriedOut, broken11, broken12, broken13, Refusal, refusals, unless, entry}
 use Rattle.conduct.proofs.Answered.{kept-11}
-use Rattle.answering.specs.declared.Answer.{Answer}
-use Rattle.answering.specs.declared.Answer.the-variants as answers
-use Rattle.answering.specs.declared.Call.{Call}
-use Rattle.calling.specs.Calls.{readable, Allowed}
-use Rattle.answering.specs.Replies.{spoken, Gave}
+use Rattle.call_answer.specs.declared.Answer.{Answer}
+use Rattle.call_answer.specs.declared.Answer.the-variants as answers
+use Rattle.call_answer.specs.declared.Call.{Call}
+use Rattle.call_carry.specs.Calls.{readable, Allowed}
+use Rattle.call_answer.specs.Replies.{spoken, Gave}
 
 -- ---- what a refusal that does not apply says
 

@@ -1,9 +1,10 @@
 // The entry points: open, offer and close, on slices that the caller lends. The check is crate checking's.
 ghost use Rattle.turns.specs.Entries.{opens, offers, closes};
-ghost use Rattle.answering.specs.Replies.{Gave};
-use answering::Answer;
-use answering::Call;
-use calling::carry_out;
+ghost use Rattle.call_answer.specs.Replies.{Gave};
+use call_answer::Answer;
+use call_answer::Call;
+use call_carry::carry_action;
+use call_carry::carry_out;
 use checking::Checked;
 use checking::check;
 use checking::number;
@@ -30,7 +31,7 @@ pub fn offer(policy: &[u8], state: &mut [u8], events: &mut [u8], action: u8) -> 
     ensures { λ r. ⌜ Gave (offers (now (policy .entry)) (now (state .entry)) (now (events .entry)) action) r (now (state .exit)) (now (events .exit)) ⌝ }
 {
     let checked = check(policy);
-    let Checked::Passed(_, _) = checked else {
+    let Checked::Passed(set, _) = checked else {
         return Answer::Refused(number(checked));
     };
     if short(state, events) {
@@ -46,7 +47,7 @@ pub fn offer(policy: &[u8], state: &mut [u8], events: &mut [u8], action: u8) -> 
     if halted {
         return Answer::Refused(14);
     }
-    carry_out(policy, state, events, Call::Offer(action))
+    carry_action(policy, set, state, events, action)
 }
 
 // Closes the policy.

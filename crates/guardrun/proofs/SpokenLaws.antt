@@ -5,10 +5,10 @@ use Rattle.policy.specs.Bytes.{Bytes}
 use Rattle.turns.specs.Status.{statusOf}
 use Rattle.turns.specs.Turn.{Request}
 use Rattle.turns.specs.Entries.{Reply, answers, refuses, Result}
-use Rattle.answering.specs.Replies.{Gave}
-use Rattle.answering.specs.declared.Answer.{Answer}
-use Rattle.answering.specs.declared.Answer.the-variants.{Answered, Refused}
-use Rattle.answering.proofs.Heard.{heard, heard-refusal}
+use Rattle.call_answer.specs.Replies.{Gave}
+use Rattle.call_answer.specs.declared.Answer.{Answer}
+use Rattle.call_answer.specs.declared.Answer.the-variants.{Answered, Refused}
+use Rattle.call_answer.proofs.Heard.{heard, heard-refusal}
 use Rattle.reporting.specs.Said.{Said, said}
 use Rattle.reporting.specs.Speaks.{Speaks}
 use Rattle.reporting.specs.declared.Told.{Told}

@@ -1,10 +1,10 @@
 // A call made, and what is printed of it.
 ghost use Rattle.turns.specs.Entries.{entry};
-ghost use Rattle.answering.specs.Requests.{asked};
-ghost use Rattle.answering.specs.Replies.{Gave};
+ghost use Rattle.call_answer.specs.Requests.{asked};
+ghost use Rattle.call_answer.specs.Replies.{Gave};
 ghost use Rattle.guardrun.specs.Spoke.{Spoke};
-use answering::Answer;
-use answering::Call;
+use call_answer::Answer;
+use call_answer::Call;
 use guard::close;
 use guard::offer;
 use guard::open;

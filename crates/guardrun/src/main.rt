@@ -9,7 +9,7 @@ ghost use lib.ListN.{length};
 ghost use Rattle.policy.specs.Bytes.{number};
 ghost use Rattle.guardrun.specs.Printed.{policyEnd};
 use crate::calls::tell;
-use answering::Call;
+use call_answer::Call;
 use libc::STDIN_FILENO;
 use libc::STDOUT_FILENO;
 use reading::word16;

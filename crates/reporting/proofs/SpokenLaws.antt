@@ -5,8 +5,8 @@ use mathlib.Core.Bool.{Bool}
 use lib.ListN.{length}
 use Rattle.policy.specs.Bytes.{Bytes}
 use Rattle.turns.specs.Turn.{Request}
-use Rattle.answering.specs.Requests.{asked}
-use Rattle.answering.specs.declared.Call.{Call}
+use Rattle.call_answer.specs.Requests.{asked}
+use Rattle.call_answer.specs.declared.Call.{Call}
 use Rattle.spelling.specs.Added.{Added}
 use Rattle.reporting.specs.Speaks.{textRoom, Speaks}
 

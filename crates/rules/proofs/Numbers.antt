@@ -371,6 +371,29 @@ module _ (file : Bytes) {i place : ℕ} (h : i < nodeCount file) (p : place ≡ 
     pub numbered-read : {w : Way} {j : Join} → nodeKind (x .kind) ≡ aPair w j → Numbered i (treeAt file (x .left)) (treeAt file (x .right))
     numbered-read {w} {j} e = subst (λ (y : Node). Numbered i (treeAt file (y .left)) (treeAt file (y .right))) node-read (numbered file five i w j (kind-read e))
 
+-- n is a child of node p
+abbrev pub Child : Bytes → ℕ → ℕ → Type 0
+Child file p n = (nodeAt file (nodePlace p) .left ≡ n) ⊎ (nodeAt file (nodePlace p) .right ≡ n)
+
+kid-read : (file : Bytes) {p n : ℕ} → p < nodeCount file → {w : Way} {j : Join} → nodeKind (nodeAt file (nodePlace p) .kind) ≡ aPair w j
+    → (s : Side) → child s (nodeAt file (nodePlace p)) ≡ n → Kid (nodes file) p s n
+kid-read file {p} h {w} {j} e s z =
+    record { way = w; join = j; pair = ap (λ (y : Node). nodeKind (y .kind)) (node-of file p h) ∙ e; is = ap (λ (y : Node). child s y) (node-of file p h) ∙ z }
+
+module _ (file : Bytes) (five : broken5 file ≡ false) {p : ℕ} (h : p < nodeCount file) {w : Way} {j : Join} (e : nodeKind (nodeAt file (nodePlace p) .kind) ≡ aPair w j) where
+  pub two-children : nodeAt file (nodePlace p) .left ≡ nodeAt file (nodePlace p) .right → ⊥
+  unfolding child
+  two-children z = not-both (nodes file) (once file five) (ordered file five) (nodeAt file (nodePlace p) .right) p (kid-read file h e on-left z) (kid-read file h e on-right refl)
+
+  pub one-parent : {q n : ℕ} → q < nodeCount file → {v : Way} {k : Join} → nodeKind (nodeAt file (nodePlace q) .kind) ≡ aPair v k → Child file p n → Child file q n → p ≡ q
+  unfolding child
+  one-parent {q} {n} g f c d = ⊎-elim (λ y. from on-left (kid-read file h e on-left y)) (λ y. from on-right (kid-read file h e on-right y)) c
+    where
+      from : (s : Side) → Kid (nodes file) p s n → p ≡ q
+      from s a =
+          ⊎-elim (λ z. same-parent (nodes file) (once file five) (ordered file five) n p q s on-left a (kid-read file g f on-left z))
+          (λ z. same-parent (nodes file) (once file five) (ordered file five) n p q s on-right a (kid-read file g f on-right z)) d
+
 -- `tree` is the one at node 0
 pub tree-top : (file : Bytes) → tree file ≡ treeAt file 0
 unfolding tree treeAt

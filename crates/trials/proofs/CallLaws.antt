@@ -10,8 +10,8 @@ use borrow.Rule.Slice.PartMut.{mid-len}
 use Rattle.policy.specs.Bytes.{Bytes, number}
 use Rattle.turns.specs.Turn.{Request, opening, offer, close}
 use Rattle.turns.specs.Entries.{entry}
-use Rattle.answering.specs.Replies.{Gave}
-use Rattle.answering.specs.declared.Answer.{Answer}
+use Rattle.call_answer.specs.Replies.{Gave}
+use Rattle.call_answer.specs.declared.Answer.{Answer}
 use Rattle.files.specs.Writing as writing
 use Rattle.writing.specs.Replies as replies
 use Rattle.writing.specs.declared.Written.{Written}

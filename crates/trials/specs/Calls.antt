@@ -9,9 +9,9 @@ use Rattle.policy.specs.Bytes.{Bytes, number, spell}
 use Rattle.rules.specs.Check.{Answer, passes, refused}
 use Rattle.turns.specs.Turn.{Request, opening, offer, close}
 use Rattle.turns.specs.Entries.{Result, entry}
-use Rattle.answering.specs.Replies.{spoken}
-use Rattle.answering.specs.declared.Answer as guard
-use Rattle.answering.specs.declared.Answer.the-variants.{Answered, Refused}
+use Rattle.call_answer.specs.Replies.{spoken}
+use Rattle.call_answer.specs.declared.Answer as guard
+use Rattle.call_answer.specs.declared.Answer.the-variants.{Answered, Refused}
 use Rattle.files.specs.Writing as writing
 use Rattle.writing.specs.Replies as replies
 use Rattle.writing.specs.declared.Written.{Written}

@@ -1,46 +1,29 @@
--- `rest_empty` meets its contract. The loop's invariant: the whole test equals the test of the records from k on. Assumes nothing.
-use Prim.Native.Nat.{_-_}
+-- `rest_empty` meets its contract. The loop's invariant: the whole test equals that of what is joined and of the bytes from i on. Assumes nothing.
+use Prim.Native.Nat.{_*_, _-_}
+use Rattle.turns.specs.Saved.{stateSize}
 use native.Mathlib.Omega.{arith}
 use mathlib.Core.Path.{_≡_, refl, sym, ap, _∙_}
-use borrow.Author.Tests.{eq-eqb, ne-eqb}
-use Rattle.policy.proofs.Tested.{rest-on, rest-off}
-use Rattle.fitting.proofs.ZeroLaws.{isZero, rest, rest-whole, rest-next, rest-over}
+use mathlib.Core.Bool.{Bool, _&&_, and-true}
+use Rattle.fitting.proofs.ZeroLaws.{isZero, rest, rest-whole, rest-joined, rest-over}
 use Rattle.fitting.proofs.rest_empty.Statement.{statement}
 use Rattle.fitting.proofs.rest_empty.Tie as tie
 
 abbrev Inv-loop : tie.InvT-loop
-Inv-loop state n k₀ k = rest state n ≡ rest state k
+Inv-loop state n all₀ i₀ all i = rest state (8 * n) ≡ (isZero all && rest state i)
 
 abbrev μ-loop : tie.MeasureT-loop
-μ-loop state n k₀ k = 31 - k
+μ-loop state n all₀ i₀ all i = stateSize - i
 
 loop-holds : tie.Need-loop-holds Inv-loop μ-loop
 loop-holds c = refl
 
+loop-again : tie.Need-loop-again Inv-loop μ-loop
+loop-again c = let l = c .before .before .loop in l .inv ∙ rest-joined _ (l .i) (l .all) _ (c .before .before .before .before .pre .0) (c .before .loop-test .taken) (c .byte .ensures)
+
 returns : tie.Need-returns Inv-loop μ-loop
 returns c =
-    let l = c .before .before .before .loop in
-    rest-off _ _ _ _ _ (rest-whole _ _ ∙ l .inv) (rest-next _ _) (ap isZero (c .before .word64 .ensures)) (ne-eqb _ 0 (c .if1 .taken))
-
-loop-again : tie.Need-loop-again Inv-loop μ-loop
-loop-again c =
-    let l = c .before .before .before .loop in
-    rest-on _ _ _ _ _ (l .inv) (rest-next _ _) (ap isZero (c .before .word64 .ensures)) (eq-eqb _ 0 (c .if1 .left))
-
-returns-2 : tie.Need-returns-2 Inv-loop μ-loop
-returns-2 c = sym (rest-whole _ _ ∙ c .before .loop .inv ∙ rest-over _ _ (c .before .before .before .pre .0) (c .loop-test .left))
+    let l = c .before .loop in
+    sym (rest-whole _ _ ∙ l .inv ∙ ap (λ (b : Bool). isZero (l .all) && b) (rest-over _ _ (c .before .before .before .pre .0) (c .loop-test .left)) ∙ and-true (isZero (l .all)))
 
 pub rest-empty-spec : {M : Type 1} → statement M
-rest-empty-spec =
-    tie.close
-    (tie.spec
-    Inv-loop
-    μ-loop
-    loop-holds
-    (λ c. omega arith)
-    (λ c κs. omega arith)
-    returns
-    (λ c. omega arith)
-    (λ c. omega arith)
-    loop-again
-    returns-2)
+rest-empty-spec = tie.close (tie.spec Inv-loop μ-loop (λ c. omega arith) loop-holds (λ c κs. omega arith) (λ c. omega arith) (λ c. omega arith) loop-again returns)

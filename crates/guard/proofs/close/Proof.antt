@@ -5,9 +5,9 @@ use Rattle.rules.proofs.Passed.{passed}
 use Rattle.checking.proofs.Answers.{check-passes, check-refuses, number-refuses}
 use Rattle.turns.specs.Turn as spec
 use Rattle.turns.specs.Entries.{refusals, closes}
-use Rattle.answering.specs.declared.Call.the-variants.{Close}
-use Rattle.answering.specs.Requests.{asked}
-use Rattle.calling.specs.Calls.{readable}
+use Rattle.call_answer.specs.declared.Call.the-variants.{Close}
+use Rattle.call_answer.specs.Requests.{asked}
+use Rattle.call_carry.specs.Calls.{readable, asksRoot}
 use Rattle.guard.proofs.EntryLaws.{allowed, room-enough, state-fits, refused-file, all-left, refused-here, next-left, none-left}
 use Rattle.guard.proofs.close.Statement.{statement}
 use Rattle.guard.proofs.close.Tie as tie
@@ -42,13 +42,16 @@ returns-3 c =
     refused-here l₁ (sym (c .before .unfit .ensures) ∙ c .if2 .taken)
 
 carry-out-requires : tie.Need-carry-out-requires
-unfolding readable
+unfolding readable asksRoot
 carry-out-requires c κs =
     let a = c .before .before .before .before .before .before .before .before .before .before .before .before .before .before .before .args in
-    allowed (a .policy .now) (a .state .now) (a .events .now) Close
-    (check-passes (a .policy .now) (c .before .before .before .before .before .before .before .before .before .before .before .check .ensures) (c .before .before .before .before .before .before .before .before .before .enum-told .given .1))
-    (sym (c .before .before .before .before .before .before .short .ensures) ∙ c .before .before .before .before .before .if1 .left)
-    (state-fits (a .policy .now) (a .state .now) (sym (c .before .before .before .unfit .ensures) ∙ c .before .before .if2 .left))
+    record {
+      allowed = allowed (a .policy .now) (a .state .now) (a .events .now) Close
+          (check-passes (a .policy .now) (c .before .before .before .before .before .before .before .before .before .before .before .check .ensures) (c .before .before .before .before .before .before .before .before .before .enum-told .given .1))
+          (sym (c .before .before .before .before .before .before .short .ensures) ∙ c .before .before .before .before .before .if1 .left)
+          (state-fits (a .policy .now) (a .state .now) (sym (c .before .before .before .unfit .ensures) ∙ c .before .before .if2 .left));
+      asks = tt;
+    }
 
 returns-4 : tie.Need-returns-4
 unfolding closes refusals asked

@@ -2,13 +2,12 @@
 use native.Mathlib.Omega.{arith}
 use mathlib.Core.Path.{sym, _∙_}
 use borrow.Author.Needs.{needs}
-use Rattle.rules.proofs.Passed.{passed}
+use Rattle.rules.proofs.Passed.{passed, passed-sets}
 use Rattle.checking.proofs.Answers.{check-passes, check-refuses, number-refuses}
 use Rattle.turns.specs.Turn as spec
 use Rattle.turns.specs.Entries.{refusals, offers}
-use Rattle.answering.specs.declared.Call.the-variants.{Offer}
-use Rattle.answering.specs.Requests.{asked}
-use Rattle.calling.specs.Calls.{readable}
+use Rattle.call_answer.specs.declared.Call.the-variants.{Offer}
+use Rattle.call_carry.specs.Calls.{readable}
 use Rattle.guard.proofs.EntryLaws.{allowed, room-enough, state-fits, no-action, an-action}
 use Rattle.guard.proofs.EntryLaws.{refused-file, all-left, refused-here, next-left, none-left}
 use Rattle.guard.proofs.offer.Statement.{statement}
@@ -18,39 +17,39 @@ returns : tie.Need-returns
 unfolding offers
 returns c =
     let a = c .before .before .before .before .before .before .before .args in
-    let e = c .before .enum-told2 .given .1 in
+    let e = c .before .enum-told .given .1 in
     refused-file (a .policy .now) (spec.offer (a .action)) (a .state .now) (a .events .now) _ (check-refuses (a .policy .now) (c .before .before .before .check .ensures) e) (number-refuses (c .number .ensures) e)
 
 returns-2 : tie.Need-returns-2
 unfolding offers refusals
 returns-2 c =
-    let a = c .before .before .before .before .before .before .before .before .before .before .args in
-    let l = all-left (a .policy .now) (spec.offer (a .action)) (a .state .now) (a .events .now) (check-passes (a .policy .now) (c .before .before .before .before .before .before .check .ensures) (c .before .before .before .before .enum-told .given .1)) in
+    let a = c .before .before .before .before .before .before .before .before .before .before .before .args in
+    let l = all-left (a .policy .now) (spec.offer (a .action)) (a .state .now) (a .events .now) (check-passes (a .policy .now) (c .before .before .before .before .before .before .before .check .ensures) (c .before .before .before .before .before .checked .given .1)) in
     refused-here l (sym (c .before .short .ensures) ∙ c .if1 .taken)
 
 unfit-requires : tie.Need-unfit-requires
 unfit-requires c κs =
-    let a = c .before .before .before .before .before .before .before .before .before .before .before .args in (
-      passed (a .policy .now) _ _ (check-passes (a .policy .now) (c .before .before .before .before .before .before .before .check .ensures) (c .before .before .before .before .before .enum-told .given .1)),
+    let a = c .before .before .before .before .before .before .before .before .before .before .before .before .args in (
+      passed (a .policy .now) _ _ (check-passes (a .policy .now) (c .before .before .before .before .before .before .before .before .check .ensures) (c .before .before .before .before .before .before .checked .given .1)),
       room-enough (a .state .now) (a .events .now) (sym (c .before .before .short .ensures) ∙ c .before .if1 .left) .0,
     )
 
 returns-3 : tie.Need-returns-3
 unfolding offers refusals
 returns-3 c =
-    let a = c .before .before .before .before .before .before .before .before .before .before .before .before .before .args in
-    let l = all-left (a .policy .now) (spec.offer (a .action)) (a .state .now) (a .events .now) (check-passes (a .policy .now) (c .before .before .before .before .before .before .before .before .before .check .ensures) (c .before .before .before .before .before .before .before .enum-told .given .1)) in
+    let a = c .before .before .before .before .before .before .before .before .before .before .before .before .before .before .args in
+    let l = all-left (a .policy .now) (spec.offer (a .action)) (a .state .now) (a .events .now) (check-passes (a .policy .now) (c .before .before .before .before .before .before .before .before .before .before .check .ensures) (c .before .before .before .before .before .before .before .before .checked .given .1)) in
     let l₁ = next-left l (sym (c .before .before .before .before .short .ensures) ∙ c .before .before .before .if1 .left) in
     refused-here l₁ (sym (c .before .unfit .ensures) ∙ c .if2 .taken)
 
 halted-requires : tie.Need-halted-requires
-halted-requires c κs = let a = c .before .before .before .before .before .before .before .before .before .before .before .before .before .before .args in room-enough (a .state .now) (a .events .now) (sym (c .before .before .before .before .before .short .ensures) ∙ c .before .before .before .before .if1 .left) .0
+halted-requires c κs = let a = c .before .before .before .before .before .before .before .before .before .before .before .before .before .before .before .args in room-enough (a .state .now) (a .events .now) (sym (c .before .before .before .before .before .short .ensures) ∙ c .before .before .before .before .if1 .left) .0
 
 returns-4 : tie.Need-returns-4
 unfolding offers refusals
 returns-4 c =
-    let a = c .before .before .before .before .before .before .before .before .before .before .before .before .before .before .before .before .args in
-    let l = all-left (a .policy .now) (spec.offer (a .action)) (a .state .now) (a .events .now) (check-passes (a .policy .now) (c .before .before .before .before .before .before .before .before .before .before .before .before .check .ensures) (c .before .before .before .before .before .before .before .before .before .before .enum-told .given .1)) in
+    let a = c .before .before .before .before .before .before .before .before .before .before .before .before .before .before .before .before .before .args in
+    let l = all-left (a .policy .now) (spec.offer (a .action)) (a .state .now) (a .events .now) (check-passes (a .policy .now) (c .before .before .before .before .before .before .before .before .before .before .before .before .before .check .ensures) (c .before .before .before .before .before .before .before .before .before .before .before .checked .given .1)) in
     let l₁ = next-left l (sym (c .before .before .before .before .before .before .before .short .ensures) ∙ c .before .before .before .before .before .before .if1 .left) in
     let l₂ = next-left l₁ (sym (c .before .before .before .before .unfit .ensures) ∙ c .before .before .before .if2 .left) in
     refused-here l₂ (no-action (a .action) (omega arith))
@@ -58,32 +57,35 @@ returns-4 c =
 returns-5 : tie.Need-returns-5
 unfolding offers refusals
 returns-5 c =
-    let a = c .before .before .before .before .before .before .before .before .before .before .before .before .before .before .before .before .before .args in
-    let l = all-left (a .policy .now) (spec.offer (a .action)) (a .state .now) (a .events .now) (check-passes (a .policy .now) (c .before .before .before .before .before .before .before .before .before .before .before .before .before .check .ensures) (c .before .before .before .before .before .before .before .before .before .before .before .enum-told .given .1)) in
+    let a = c .before .before .before .before .before .before .before .before .before .before .before .before .before .before .before .before .before .before .args in
+    let l = all-left (a .policy .now) (spec.offer (a .action)) (a .state .now) (a .events .now) (check-passes (a .policy .now) (c .before .before .before .before .before .before .before .before .before .before .before .before .before .before .check .ensures) (c .before .before .before .before .before .before .before .before .before .before .before .before .checked .given .1)) in
     let l₁ = next-left l (sym (c .before .before .before .before .before .before .before .before .short .ensures) ∙ c .before .before .before .before .before .before .before .if1 .left) in
     let l₂ = next-left l₁ (sym (c .before .before .before .before .before .unfit .ensures) ∙ c .before .before .before .before .if2 .left) in
     let l₃ = next-left l₂ (an-action (a .action) (omega arith)) in
     refused-here l₃ (sym (c .before .before .halted .ensures) ∙ c .if4 .taken)
 
-carry-out-requires : tie.Need-carry-out-requires
+carry-action-requires : tie.Need-carry-action-requires
 unfolding readable
-carry-out-requires c κs =
-    let a = c .before .before .before .before .before .before .before .before .before .before .before .before .before .before .before .before .before .before .before .args in
-    allowed (a .policy .now) (a .state .now) (a .events .now) (Offer (a .action))
-    (check-passes (a .policy .now) (c .before .before .before .before .before .before .before .before .before .before .before .before .before .before .before .check .ensures) (c .before .before .before .before .before .before .before .before .before .before .before .before .before .enum-told .given .1))
-    (sym (c .before .before .before .before .before .before .before .before .before .before .short .ensures) ∙ c .before .before .before .before .before .before .before .before .before .if1 .left)
-    (state-fits (a .policy .now) (a .state .now) (sym (c .before .before .before .before .before .before .before .unfit .ensures) ∙ c .before .before .before .before .before .before .if2 .left))
+carry-action-requires c κs =
+    let a = c .before .before .before .before .before .before .before .before .before .before .before .before .before .before .before .before .before .before .before .before .args in
+    let e = check-passes (a .policy .now) (c .before .before .before .before .before .before .before .before .before .before .before .before .before .before .before .before .check .ensures) (c .before .before .before .before .before .before .before .before .before .before .before .before .before .before .checked .given .1) in (
+      allowed (a .policy .now) (a .state .now) (a .events .now) (Offer (a .action))
+          e
+          (sym (c .before .before .before .before .before .before .before .before .before .before .short .ensures) ∙ c .before .before .before .before .before .before .before .before .before .if1 .left)
+          (state-fits (a .policy .now) (a .state .now) (sym (c .before .before .before .before .before .before .before .unfit .ensures) ∙ c .before .before .before .before .before .before .if2 .left)),
+      passed-sets (a .policy .now) _ _ e .0,
+    )
 
 returns-6 : tie.Need-returns-6
-unfolding offers refusals asked
+unfolding offers refusals
 returns-6 c =
-    let a = c .before .before .before .before .before .before .before .before .before .before .before .before .before .before .before .before .before .before .before .before .before .before .before .before .args in
-    let l = all-left (a .policy .now) (spec.offer (a .action)) (a .state .now) (a .events .now) (check-passes (a .policy .now) (c .before .before .before .before .before .before .before .before .before .before .before .before .before .before .before .before .before .before .before .before .check .ensures) (c .before .before .before .before .before .before .before .before .before .before .before .before .before .before .before .before .before .before .enum-told .given .1)) in
+    let a = c .before .before .before .before .before .before .before .before .before .before .before .before .before .before .before .before .before .before .before .before .before .before .before .before .before .args in
+    let l = all-left (a .policy .now) (spec.offer (a .action)) (a .state .now) (a .events .now) (check-passes (a .policy .now) (c .before .before .before .before .before .before .before .before .before .before .before .before .before .before .before .before .before .before .before .before .before .check .ensures) (c .before .before .before .before .before .before .before .before .before .before .before .before .before .before .before .before .before .before .before .checked .given .1)) in
     let l₁ = next-left l (sym (c .before .before .before .before .before .before .before .before .before .before .before .before .before .before .before .short .ensures) ∙ c .before .before .before .before .before .before .before .before .before .before .before .before .before .before .if1 .left) in
     let l₂ = next-left l₁ (sym (c .before .before .before .before .before .before .before .before .before .before .before .before .unfit .ensures) ∙ c .before .before .before .before .before .before .before .before .before .before .before .if2 .left) in
     let l₃ = next-left l₂ (an-action (a .action) (omega arith)) in
     let l₄ = next-left l₃ (sym (c .before .before .before .before .before .before .before .before .before .halted .ensures) ∙ c .before .before .before .before .before .before .before .if4 .left) in
-    none-left l₄ (c .before .before .before .before .carry-out .ensures)
+    none-left l₄ (c .before .before .before .before .carry-action .ensures)
 
 pub offer-spec : {M : Type 1} → statement M
 offer-spec =
@@ -109,7 +111,7 @@ offer-spec =
     (λ c. search needs)
     (λ c. search needs)
     returns-5
-    carry-out-requires
+    carry-action-requires
     (λ c. search needs)
     (λ c. search needs)
     returns-6)

@@ -4,9 +4,9 @@ use borrow.Author.Needs.{needs}
 use Rattle.checking.proofs.Answers.{check-passes, check-refuses, number-refuses}
 use Rattle.turns.specs.Turn.{opening}
 use Rattle.turns.specs.Entries.{refusals, opens}
-use Rattle.answering.specs.declared.Call.the-variants.{Open}
-use Rattle.answering.specs.Requests.{asked}
-use Rattle.calling.specs.Calls.{readable}
+use Rattle.call_answer.specs.declared.Call.the-variants.{Open}
+use Rattle.call_answer.specs.Requests.{asked}
+use Rattle.call_carry.specs.Calls.{readable, asksRoot}
 use Rattle.guard.proofs.EntryLaws.{allowed, refused-file, all-left, refused-here, next-left, none-left}
 use Rattle.guard.proofs.open.Statement.{statement}
 use Rattle.guard.proofs.open.Tie as tie
@@ -26,13 +26,16 @@ returns-2 c =
     refused-here l (sym (c .before .short .ensures) ∙ c .if1 .taken)
 
 carry-out-requires : tie.Need-carry-out-requires
-unfolding readable
+unfolding readable asksRoot
 carry-out-requires c κs =
     let a = c .before .before .before .before .before .before .before .before .before .before .before .before .args in
-    allowed (a .policy .now) (a .state .now) (a .events .now) Open
-    (check-passes (a .policy .now) (c .before .before .before .before .before .before .before .before .check .ensures) (c .before .before .before .before .before .before .enum-told .given .1))
-    (sym (c .before .before .before .short .ensures) ∙ c .before .before .if1 .left)
-    tt
+    record {
+      allowed = allowed (a .policy .now) (a .state .now) (a .events .now) Open
+          (check-passes (a .policy .now) (c .before .before .before .before .before .before .before .before .check .ensures) (c .before .before .before .before .before .before .enum-told .given .1))
+          (sym (c .before .before .before .short .ensures) ∙ c .before .before .if1 .left)
+          tt;
+      asks = tt;
+    }
 
 returns-3 : tie.Need-returns-3
 unfolding opens refusals asked

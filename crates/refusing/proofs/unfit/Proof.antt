@@ -3,7 +3,7 @@ use native.Mathlib.Omega.{arith}
 use mathlib.Core.Path.{ap}
 use mathlib.Core.Bool.{not}
 use Rattle.turns.specs.Entries.{broken12}
-use Rattle.tables.proofs.FileNodes.{room}
+use Rattle.turn_tables.proofs.FileNodes.{room}
 use Rattle.refusing.proofs.unfit.Statement.{statement}
 use Rattle.refusing.proofs.unfit.Tie as tie
 

@@ -2,7 +2,7 @@
 use borrow.Author.Needs.{needs}
 use Rattle.turns.specs.Status.{statusOf}
 use Rattle.turns.specs.Turn.{Request}
-use Rattle.answering.specs.Requests.{asked}
+use Rattle.call_answer.specs.Requests.{asked}
 use Rattle.text.specs.Words.{ascii}
 use Rattle.spelling.proofs.AddedLaws.{nothing, named}
 use Rattle.reporting.specs.Said.{heading}

@@ -4,7 +4,7 @@ use borrow.Author.Needs.{needs}
 use Rattle.turns.specs.Status.{statusOf}
 use Rattle.turns.specs.Turn.{Request}
 use Rattle.turns.proofs.StatusLaws.{halted-five}
-use Rattle.answering.specs.Requests.{asked}
+use Rattle.call_answer.specs.Requests.{asked}
 use Rattle.reporting.specs.Said.{isLast}
 use Rattle.reporting.proofs.SpokenLaws.{by-call}
 use Rattle.reporting.proofs.is_last.Statement.{statement}

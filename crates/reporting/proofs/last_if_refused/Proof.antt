@@ -1,6 +1,6 @@
 -- `last_if_refused` meets its contract. Assumes nothing.
 use borrow.Author.Needs.{needs}
-use Rattle.answering.specs.Requests.{asked}
+use Rattle.call_answer.specs.Requests.{asked}
 use Rattle.reporting.specs.Said.{lastIfRefused}
 use Rattle.reporting.proofs.SpokenLaws.{by-call}
 use Rattle.reporting.proofs.last_if_refused.Statement.{statement}

@@ -1,8 +1,8 @@
 -- `ask` meets its contract. Assumes nothing.
 use mathlib.Core.Path.{sym, ap}
 use Rattle.turns.specs.Entries.{opens, offers, closes}
-use Rattle.answering.specs.Requests.{asked}
-use Rattle.answering.proofs.Heard.{gave-as}
+use Rattle.call_answer.specs.Requests.{asked}
+use Rattle.call_answer.proofs.Heard.{gave-as}
 use borrow.Author.Needs.{needs}
 use Rattle.guardrun.proofs.calls.ask.Statement.{statement}
 use Rattle.guardrun.proofs.calls.ask.Tie as tie

@@ -1,6 +1,6 @@
 -- `tell` meets its contract: an answer's events are few and in the buffer. Assumes nothing.
 use borrow.Author.Needs.{needs}
-use Rattle.answering.proofs.Heard.{few}
+use Rattle.call_answer.proofs.Heard.{few}
 use Rattle.guardrun.proofs.SpokenLaws.{spoke-answered, spoke-refused}
 use Rattle.guardrun.proofs.calls.tell.Statement.{statement}
 use Rattle.guardrun.proofs.calls.tell.Tie as tie

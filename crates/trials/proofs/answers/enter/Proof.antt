@@ -4,7 +4,7 @@ use Rattle.trials.proofs.CallLaws.{request-open, request-offer, request
 use borrow.Author.Needs.{needs}
 use Rattle.trials.proofs.answers.enter.Statement.{statement}
 use Rattle.trials.proofs.answers.enter.Tie as tie
-use Rattle.answering.proofs.Heard.{gave-as}
+use Rattle.call_answer.proofs.Heard.{gave-as}
 
 returns : tie.Need-returns
 unfolding opens

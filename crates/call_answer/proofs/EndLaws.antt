@@ -1,0 +1,78 @@
+-- The verdict's event where it is written, and the end of a call. Assumes nothing.
+use Prim.Native.Nat.{ℕ, suc, _+_, _*_, _≤_}
+use native.Mathlib.Omega.{arith}
+use mathlib.Core.Path.{_≡_, refl, sym, ap, _∙_, subst}
+use mathlib.Core.Bool.{Bool, true, false}
+use mathlib.Core.List.{List, [], _∷_}
+use lib.ListN.{length, set}
+use Rattle.actions.specs.Sets.{Action}
+use Rattle.policy.specs.Bytes.{Bytes, number, put}
+use Rattle.policy.specs.Tree.{Tree, leaf, trivial, unsatisfiable, node, numberOf, tree}
+use Rattle.policy.proofs.ByteLaws.{put-none, put-sets}
+use Rattle.lawful.proofs.LawfulTree.{lawful}
+use Rattle.rules.proofs.Numbers.{root-number}
+use Rattle.rules.specs.Passed.{Passed}
+use Rattle.turns.specs.Status.{Status, statusNumber, isHalted}
+use Rattle.turns.specs.State.{State, status}
+use Rattle.turns.specs.Turn.{verdict}
+use Rattle.turns.specs.Events.{Event, eventOf, eventBytes}
+use Rattle.turns.specs.Saved.{statusAt, cell, saved}
+use Rattle.conduct.proofs.Cells.{cellAt, Kept, lawful-apart, status-is, saved-length, saved-kept}
+use Rattle.conduct.proofs.Lasting.{in-cells}
+use Rattle.call_answer.specs.declared.Answer.the-variants.{Answered}
+use Rattle.call_answer.specs.Ends.{verdicts, Added, Ended}
+
+-- the verdict's event, as code stores it
+pub said : (u : Bool) (room : Bytes) (n a b : ℕ) → 2 * n + 2 ≤ length room → eventBytes (eventOf (verdict u a)) ≡ b ∷ a ∷ []
+    → set (set room (2 * n) b) (2 * n + 1) a ≡ put room (2 * n) (eventBytes (eventOf (verdict u a)))
+said u room n a b h e =
+    let k : 2 * n + 1 ≡ suc (2 * n) = omega arith in
+    ap (λ (i : ℕ). set (set room (2 * n) b) i a) k
+    ∙ sym (put-sets room (2 * n) (b ∷ a ∷ []) (omega arith))
+    ∙ ap (put room (2 * n)) (sym e)
+
+-- ---- the verdict
+
+pub no-verdict : (s : Status) (u : Bool) (a : Action) (room : Bytes) (n : ℕ) → isHalted s ≡ true → 2 * n + 2 ≤ length room → Added (verdicts s u a) room room n n
+unfolding verdicts eventBytes
+no-verdict s u a room n e h = rw (e, verdicts) (record { told = sym (put-none room (2 * n)); counted = omega arith })
+
+verdict-one : (u : Bool) (a : Action) → length (eventOf (verdict u a)) ≡ 1
+unfolding eventOf verdict
+verdict-one true a = refl
+verdict-one false a = refl
+
+pub one-verdict : (s : Status) (u : Bool) (a : Action) {room room′ : Bytes} (n : ℕ) → isHalted s ≡ false
+    → room′ ≡ put room (2 * n) (eventBytes (eventOf (verdict u a))) → Added (verdicts s u a) room room′ n (n + 1)
+unfolding verdicts
+one-verdict s u a n e f = rw (e, verdicts) (record { told = f; counted = ap (λ (k : ℕ). n + k) (sym (verdict-one u a)) })
+
+pub few-verdicts : (s : Status) (u : Bool) (a : Action) → length (verdicts s u a) ≤ 1
+unfolding verdicts
+few-verdicts s u a = go (isHalted s)
+  where
+    go : (h : Bool) → length {A = Event} (elim h as (λ _. List Event) [ true ↦ [] | false ↦ eventOf (verdict u a) ]) ≤ 1
+    go true = omega arith
+    go false = omega (arith, verdict-one u a)
+
+-- ---- the end of a call
+
+kept-root : (t : Tree) (s : State) (bs : Bytes) → Kept t s bs → cellAt bs (numberOf t) ≡ cell s
+unfolding Kept numberOf
+kept-root (leaf i r c code) s bs k = k
+kept-root (trivial i) s bs k = k
+kept-root (unsatisfiable i) s bs k = k
+kept-root (node w j i l r) s bs k = k .0
+
+module _ {policy : Bytes} (ok : Passed policy) where
+  -- the saved state's first byte is the root's status
+  saved-root : (s : State) → statusAt (saved (tree policy) s) 0 ≡ statusNumber (status s)
+  saved-root s =
+      let t : Tree = tree policy in
+      status-is (saved t s) 0 (saved-length t (in-cells policy ok) s) (omega arith) s
+      (subst (λ (i : ℕ). cellAt (saved t s) i ≡ cell s) (root-number policy)
+      (kept-root t s (saved t s) (saved-kept t (lawful-apart t (lawful policy ok)) (in-cells policy ok) s)))
+
+  pub ended : {s : State} (n : ℕ) {b : ℕ} {bytes : Bytes} → bytes ≡ saved (tree policy) s → b ≡ number bytes 0 1 → Ended (tree policy) s n (Answered n b) bytes
+  unfolding statusAt
+  ended {s} n e f = record { answer = ap (Answered n) (f ∙ ap (λ (bs : Bytes). number bs 0 1) e ∙ saved-root s); state = e }

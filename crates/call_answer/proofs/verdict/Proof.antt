@@ -1,0 +1,18 @@
+-- `verdict` meets its contract. Assumes nothing.
+use mathlib.Core.Path.{ap}
+use mathlib.Core.Bool.{Bool}
+use Rattle.turns.specs.Turn as spec
+use Rattle.turns.specs.Events.{eventOf, eventBytes}
+use Rattle.call_answer.proofs.verdict.Statement.{statement}
+use Rattle.call_answer.proofs.verdict.Tie as tie
+
+returns : tie.Need-returns
+unfolding eventBytes eventOf spec.verdict
+returns c a = ap (λ (u : Bool). eventBytes (eventOf (spec.verdict u a))) (c .if1 .taken)
+
+returns-2 : tie.Need-returns-2
+unfolding eventBytes eventOf spec.verdict
+returns-2 c a = ap (λ (u : Bool). eventBytes (eventOf (spec.verdict u a))) (c .if1 .left)
+
+pub verdict-spec : {M : Type 1} → statement M
+verdict-spec = tie.close (tie.spec returns returns-2)

@@ -1,0 +1,18 @@
+-- What the code's answer stands for: document 01's numbers for each of its cases. Assumes nothing.
+use mathlib.Core.Path.{_≡_}
+use Rattle.policy.specs.Bytes.{Bytes}
+use Rattle.turns.specs.Status.{statusNumber}
+use Rattle.turns.specs.Entries.{Reply, answers, refuses, Result}
+use Rattle.call_answer.specs.declared.Answer.{Answer}
+use Rattle.call_answer.specs.declared.Answer.the-variants.{Answered, Refused}
+
+-- "The answer is the event count and the root's status." "A refusal returns that number and zero events".
+unfoldable pub spoken : Reply → Answer
+spoken (answers n s) = Answered n (statusNumber s)
+spoken (refuses n) = Refused n
+
+-- The call gave just this: its answer, and every byte of the two lent buffers.
+pub record Gave (x : Result) (r : Answer) (bytes room : Bytes) : Type 0 where
+  pub answer : r ≡ spoken (x .reply)
+  pub state : bytes ≡ x .state
+  pub events : room ≡ x .events

@@ -1,0 +1,92 @@
+// What a call asks and answers: its request, the verdict's event, and the call's end.
+ghost use mathlib.Core.Path.{_≡_};
+ghost use mathlib.Core.List.{[], _∷_};
+ghost use Prim.Native.Nat.{_+_, _*_, _≤_};
+ghost use lib.ListN.{length};
+ghost use Rattle.actions.specs.Sets.{Action};
+ghost use Rattle.policy.specs.Bytes.{put};
+ghost use Rattle.policy.specs.Records.{nodeCount};
+ghost use Rattle.policy.specs.Tree.{tree};
+ghost use Rattle.rules.specs.Passed.{Passed};
+ghost use Rattle.turns.specs.Turn as spec;
+ghost use Rattle.turns.specs.Events.{eventOf, eventBytes};
+ghost use Rattle.turns.specs.Saved.{stateSize};
+ghost use Rattle.turn_paths.specs.Memory.{held};
+ghost use Rattle.turn_memory.specs.Words.{wordCount, view};
+ghost use Rattle.call_answer.specs.Ends.{verdicts, Added, Ended};
+use reading::byte;
+use turn_memory::status_at;
+use turn_rest::tidy::tidy;
+
+// Which call it is.
+pub enum Call {
+    Open,
+    Offer(u8),
+    Close,
+}
+
+// The number of events and the root's status, or a refusal number.
+pub enum Answer {
+    Answered(usize, u8),
+    Refused(u8),
+}
+
+const ACCEPTED: u8 = 1;
+
+const SUPPRESSED: u8 = 2;
+
+const HALTED: u8 = 5;
+
+// "The verdict's event stands between the phases; a halt before the verdict has none."
+pub fn judge(
+    mem: &[u64; 157],
+    events: &mut [u8],
+    count: usize,
+    suppressed: bool,
+    action: u8,
+) -> usize
+    requires { ⌜ 2 * count + 2 ≤ length (now events) ⌝ }
+    ensures { λ r. ⌜ Added (verdicts (view (now (mem .entry)) 0 .status) suppressed action) (now (events .entry)) (now (events .exit)) count r ⌝ }
+{
+    if status_at(mem, 0) == HALTED {
+        return count;
+    }
+    say(events, count, suppressed, action);
+    count + 1
+}
+
+// Writes the verdict's event, after so many.
+pub fn say(events: &mut [u8], count: usize, suppressed: bool, action: u8)
+    requires { ⌜ 2 * count + 2 ≤ length (now events) ⌝ }
+    ensures { λ _. ⌜ now (events .exit) ≡ put (now (events .entry)) (2 * count) (eventBytes (eventOf (spec.verdict suppressed action))) ⌝ }
+{
+    let at = 2 * count;
+    events[at] = verdict(suppressed);
+    events[at + 1] = action;
+}
+
+// The verdict's byte in its event.
+fn verdict(suppressed: bool) -> u8
+    ensures { λ r. ⌜ ((a : Action) → eventBytes (eventOf (spec.verdict suppressed a)) ≡ r ∷ a ∷ []) ⌝ }
+{
+    if suppressed {
+        return SUPPRESSED;
+    }
+    ACCEPTED
+}
+
+// Every answered call ends so: the state is made canonical, and the root's status read from it.
+pub fn finish(
+    policy: &[u8],
+    nodes: usize,
+    mem: &mut [u64; 157],
+    state: &mut [u8],
+    count: usize,
+) -> Answer
+    requires { ⌜ Passed (now policy) × (nodes ≡ nodeCount (now policy)) ⌝ }
+    requires { ⌜ (length (now mem) ≡ wordCount) × (length (now state) ≡ stateSize) ⌝ }
+    ensures { λ r. ⌜ Ended (tree (now (policy .entry))) (held (tree (now (policy .entry))) (view (now (mem .entry)))) count r (now (state .exit)) ⌝ }
+{
+    tidy(policy, nodes, mem, state);
+    Answer::Answered(count, byte(state, 0))
+}

@@ -1,0 +1,2 @@
+mod Added
+pub mod OfferLaws

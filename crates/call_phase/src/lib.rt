@@ -1,0 +1,40 @@
+// One phase of the root, and its inserts as events.
+ghost use Prim.Native.Nat.{_+_, _*_, _≤_};
+ghost use lib.ListN.{length};
+ghost use Rattle.policy.specs.Tree.{tree};
+ghost use Rattle.turn_paths.specs.Memory.{held};
+ghost use Rattle.turn_memory.specs.Words.{view};
+ghost use Rattle.turn_memory.specs.Phases.{phaseOf};
+ghost use Rattle.call_phase.specs.Phased.{Ready, Phased, eventsOf};
+use turn_ends::SUPPRESSED;
+use turn_node::turn;
+use turn_told::tell;
+
+const ROOT: usize = 0;
+
+// So many events stand in the room; and whether the phase's action is suppressed.
+pub struct Ran {
+    pub events: usize,
+    pub suppressed: bool,
+}
+
+// One phase of the whole policy. Its events are written after so many.
+pub fn run_phase(
+    policy: &[u8],
+    mem: &mut [u64; 157],
+    events: &mut [u8],
+    count: usize,
+    phase: u8,
+) -> Ran
+    requires { ⌜ Ready (now policy) (now mem) ⌝ }
+    requires { ⌜ 2 * (count + length (eventsOf (tree (now policy)) (phaseOf phase) (held (tree (now policy)) (view (now mem))))) ≤ length (now events) ⌝ }
+    ensures { λ r. ⌜ Phased (tree (now (policy .entry))) (phaseOf phase) (view (now (mem .entry))) (view (now (mem .exit))) (now (events .entry)) (now (events .exit)) count (r .events) (r .suppressed) ⌝ }
+    ensures { λ _. ⌜ Ready (now (policy .entry)) (now (mem .exit)) ⌝ }
+{
+    let end = turn(policy, mem, ROOT, phase);
+    let all = tell(mem, events, count);
+    Ran {
+        events: all,
+        suppressed: end == SUPPRESSED,
+    }
+}

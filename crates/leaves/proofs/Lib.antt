@@ -1,4 +1,0 @@
-pub mod LeafSteps
-pub mod LeafRuns
-pub mod LeafStarts
-pub mod LeafLands

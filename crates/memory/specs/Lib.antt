@@ -1,4 +1,0 @@
-pub mod Run
-pub mod Memory
-pub mod Cells
-pub mod Promises

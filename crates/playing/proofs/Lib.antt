@@ -1,3 +1,0 @@
-mod EventLaws
-pub mod DriveBounds
-pub mod PlayLaws

@@ -1,3 +1,0 @@
-pub mod TidyLaws
-pub mod HeldLoad
-pub mod Awakened

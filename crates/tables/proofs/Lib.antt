@@ -1,2 +1,0 @@
-pub mod FileNodes
-pub mod TableLaws

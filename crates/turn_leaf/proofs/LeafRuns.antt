@@ -1,0 +1,130 @@
+-- A leaf that goes on by itself, step after step: what its run is after some of them, and that it stops. Assumes nothing.
+use Prim.Native.Nat.{ℕ, zero, suc, _-_, _≤_, _<_}
+use native.Mathlib.Omega.{arith}
+use native.Mathlib.Nat.{le-of-suc-le-suc, not-suc-le-zero}
+use mathlib.Core.Path.{_≡_, refl, sym, ap, _∙_, subst}
+use mathlib.Core.Logic.{⊎-elim}
+use mathlib.Core.Bool.{Bool, true, false}
+use mathlib.Core.List.{List, [], _∷_}
+use lib.Dec.{T}
+use lib.ListN.{length, getD}
+use Rattle.actions.specs.Sets.{Action}
+use Rattle.actions.proofs.Tests.{yes-of, of-yes}
+use Rattle.policy.specs.Bytes.{Bytes}
+use Rattle.policy.specs.Steps.{Step, halt, targets, isNext}
+use Rattle.rules.specs.Lawful.{Ahead, AllAhead, Inside, Forward}
+use Rattle.turns.specs.Status.{statusOf}
+use Rattle.turns.specs.Turn as turn
+use Rattle.conduct.proofs.Fuel.{goes-step}
+use Rattle.turn_paths.specs.Run.{flat}
+use Rattle.turn_leaf.specs.declared.Move.{Move}
+use Rattle.turn_leaf.specs.declared.Move.the-variants.{On, Ends}
+use Rattle.turn_leaf.specs.declared.Last.{Last}
+use Rattle.turn_leaf.specs.declared.Last.the-variants.{Over}
+use Rattle.reading.specs.Code.{codeAt}
+use Rattle.reading.proofs.CodeLaws.{code-length}
+use Rattle.turn_leaf.specs.Leaf.{Quietly, goesOn, ends, lasts, follows, target, left, Taken, Passing}
+use Rattle.turn_leaf.proofs.Quiet.{quietly-same, quietly-ran, quietly-then}
+
+-- ---- the steps of a leaf
+
+pub in-code : (file : Bytes) (from count o : ℕ) → o < count → o < length (codeAt file from count)
+in-code file from count o h = rw (code-length file from count) h
+
+pub in-count : (file : Bytes) (from count o : ℕ) → o < length (codeAt file from count) → o < count
+in-count file from count o h = rw (code-length file from count) at h
+
+-- past its last step there is none
+past : (code : List Step) (o : ℕ) → length code ≤ o → getD code o halt ≡ halt
+past [] o h = refl
+past (k ∷ code) zero h = absurd (not-suc-le-zero h)
+past (k ∷ code) (suc o) h = past code o (le-of-suc-le-suc h)
+
+pub past-code : (file : Bytes) (from count o : ℕ) → count ≤ o → getD (codeAt file from count) o halt ≡ halt
+past-code file from count o h = past (codeAt file from count) o (rw (code-length file from count) h)
+
+pub past-count : (file : Bytes) (from count o : ℕ) → count ≤ o → length (codeAt file from count) ≤ o
+past-count file from count o h = rw (code-length file from count) h
+
+-- ---- how far a leaf can still go
+
+unfoldable pub far : List Step → ℕ → ℕ
+far code o = elim (isNext (getD code o halt)) [ true ↦ 0 | false ↦ suc (length code - o) ]
+
+pub far-most : (code : List Step) (o : ℕ) → far code o ≤ suc (length code - o)
+unfolding far
+far-most code o = go (isNext (getD code o halt))
+  where
+    go : (b : Bool) → elim b [ true ↦ 0 | false ↦ suc (length code - o) ] ≤ suc (length code - o)
+    go true = omega arith
+    go false = omega arith
+
+far-next : (code : List Step) (o : ℕ) → T (isNext (getD code o halt)) → far code o ≡ 0
+unfolding far
+far-next code o h = rw (yes-of (isNext (getD code o halt)) h, far)
+
+far-step : (code : List Step) (o : ℕ) → isNext (getD code o halt) ≡ false → far code o ≡ suc (length code - o)
+unfolding far
+far-step code o e = rw (e, far)
+
+pub far-less : (code : List Step) (o t : ℕ) → o < length code → isNext (getD code o halt) ≡ false → Ahead code o t → far code t < far code o
+unfolding Ahead
+far-less code o t h e = ⊎-elim
+    (λ (l : o < t). let a = far-most code t in let b = far-step code o e in omega arith)
+    (λ (n : T (isNext (getD code t halt))). let a = far-next code t n in let b = far-step code o e in omega arith)
+
+-- ---- the run so far
+
+pub record Going (code : List Step) (a : Action) (o₀ c₀ o c : ℕ) : Type 0 where
+  pub whole : (i : ℕ) → Quietly (goesOn i code a o₀ c₀) (goesOn i code a o c)
+  pub in-leaf : o < length code
+  pub less : c ≤ c₀
+
+pub going-first : (code : List Step) (a : Action) (o c : ℕ) → o < length code → Going code a o c o c
+going-first code a o c h = record { whole = λ i. quietly-same refl; in-leaf = h; less = omega arith }
+
+module _ {code : List Step} (pass : Passing code) {a : Action} {o₀ c₀ o c : ℕ} (g : Going code a o₀ c₀ o c)
+    {s : Step} (is : s ≡ getD code o halt) where
+  at-step : {x : Move} → Taken s a c x → (i : ℕ) → Quietly (goesOn i code a o₀ c₀) (follows i code a o c x)
+  unfolding goesOn
+  at-step t i =
+      quietly-then (g .whole i)
+      (quietly-then
+      (quietly-same (ap flat (goes-step i a (pass .law) o c ∙ ap (λ (k : Step). turn.stepping i a (turn.goes i code a (suc (length code))) o c k) (sym is))))
+      (t .takes i o code))
+
+  module _ {t n : ℕ} (x : Taken s a c (On t n)) where
+    no-next : isNext (getD code o halt) ≡ false
+    unfolding target
+    no-next = subst (λ (k : Step). isNext k ≡ false) is (go (isNext s) refl)
+      where
+        cons : t ∷ [] ≡ [] → ⊥
+        cons e = let z : _≡_ {A = ℕ} 0 1 = cc in omega arith
+
+        go : (b : Bool) → isNext s ≡ b → isNext s ≡ false
+        go true e = absurd (cons (x .stays (of-yes (isNext s) e)))
+        go false e = e
+
+    pub going-less : far code t < far code o
+    unfolding target AllAhead Forward
+    going-less = far-less code o t (g .in-leaf) no-next (x .ahead code o (subst (λ (k : Step). AllAhead code o (targets k)) (sym is) (pass .law .forward o)) .0)
+
+    pub going-on : Going code a o₀ c₀ t n
+    unfolding target Inside left follows
+    going-on = record {
+      whole = λ i. at-step x i;
+      in-leaf = x .inside (length code) (subst (λ (k : Step). Inside (length code) (targets k)) (sym is) (pass .law .inside o)) .0;
+      less = let l = x .less in let m = g .less in omega arith;
+    }
+
+  pub going-ends : {y : Last} → Taken s a c (Ends y) → (i : ℕ) → Quietly (goesOn i code a o₀ c₀) (lasts i code a o c y)
+  unfolding follows
+  going-ends x i = at-step x i
+
+-- past its last step a leaf halts
+pub halts-past : {code : List Step} → Passing code → (a : Action) (o c : ℕ) → length code ≤ o → (i : ℕ) → Quietly (goesOn i code a o c) (lasts i code a o c (Over 5))
+unfolding goesOn turn.stepping turn.quiet flat lasts ends statusOf
+halts-past {code} pass a o c h i =
+    quietly-then
+    (quietly-same (ap flat (goes-step i a (pass .law) o c ∙ ap (λ (k : Step). turn.stepping i a (turn.goes i code a (suc (length code))) o c k) (past code o h))))
+    (quietly-ran i o _)

@@ -1,0 +1,5 @@
+pub mod Quiet
+pub mod LeafSteps
+pub mod LeafRuns
+pub mod LeafStarts
+pub mod LeafCells

@@ -1,0 +1,77 @@
+-- `go_on` meets its contract. The invariant: the leaf came to this offset by silent items; the measure: how far it can still go. Assumes nothing.
+use native.Mathlib.Omega.{arith}
+use mathlib.Core.Path.{sym, _∙_}
+use borrow.Author.Needs.{needs}
+use Rattle.reading.proofs.Rows.{step-meant}
+use Rattle.reading.specs.Code.{codeAt}
+use Rattle.turn_leaf.proofs.LeafSteps.{of-move}
+use Rattle.reading.proofs.CodeLaws.{code-length, code-at}
+use Rattle.turn_leaf.proofs.LeafRuns.{in-code, in-count, far, Going, going-first, going-less, going-on, going-ends, past-count, halts-past}
+use Rattle.turn_leaf.proofs.go_on.Statement.{statement}
+use Rattle.turn_leaf.proofs.go_on.Tie as tie
+
+abbrev Inv-loop : tie.InvT-loop
+Inv-loop policy at count action offset counter o₀ n₀ o n = Going (codeAt policy at count) action offset counter o n
+
+abbrev μ-loop : tie.MeasureT-loop
+μ-loop policy at count action offset counter o₀ n₀ o n = far (codeAt policy at count) o
+
+returns : tie.Need-returns Inv-loop μ-loop
+returns c = let st = c .before .before in record {
+  stops = halts-past (st .pre .1) _ _ _ (past-count _ _ _ _ (c .if1 .taken));
+  less = omega arith;
+}
+
+loop-holds : tie.Need-loop-holds Inv-loop μ-loop
+loop-holds c = going-first _ _ _ _ (in-code _ _ _ _ (c .if1 .left))
+
+cast-place : tie.Need-cast-place Inv-loop μ-loop
+cast-place c = let st = c .before .before .before in omega (arith, code-length (st .args .policy .now) (st .args .at) (st .args .count))
+
+mul-step-at : tie.Need-mul-step-at Inv-loop μ-loop
+mul-step-at c = let st = c .before .before .before in omega (arith, code-length (st .args .policy .now) (st .args .at) (st .args .count))
+
+add-step-at : tie.Need-add-step-at Inv-loop μ-loop
+add-step-at c = let st = c .before .before .before in omega (arith, code-length (st .args .policy .now) (st .args .at) (st .args .count))
+
+step-at-requires : tie.Need-step-at-requires Inv-loop μ-loop
+step-at-requires c κs = let st = c .before .before .before in omega (arith, code-length (st .args .policy .now) (st .args .at) (st .args .count))
+
+loop-less : tie.Need-loop-less Inv-loop μ-loop
+loop-less c = let st = c .before .before .before .before .before .before .before .before in let lp = c .before .before .before .before .before in
+    let g = lp .loop .inv in
+    going-less (st .pre .1) g (step-meant (c .before .before .before .before .step-at .ensures) ∙ sym (code-at _ _ _ _ (in-count _ _ _ _ (g .in-leaf))))
+    (of-move (c .before .m .given .1) (c .before .before .before .one-step .ensures))
+
+loop-again : tie.Need-loop-again Inv-loop μ-loop
+loop-again c = let st = c .before .before .before .before .before .before .before .before in let lp = c .before .before .before .before .before in
+    let g = lp .loop .inv in
+    going-on (st .pre .1) g (step-meant (c .before .before .before .before .step-at .ensures) ∙ sym (code-at _ _ _ _ (in-count _ _ _ _ (g .in-leaf))))
+    (of-move (c .before .m .given .1) (c .before .before .before .one-step .ensures))
+
+returns-2 : tie.Need-returns-2 Inv-loop μ-loop
+returns-2 c = let st = c .before .before .before .before .before .before .before .before in let lp = c .before .before .before .before .before in
+    let g = lp .loop .inv in record {
+      stops = going-ends (st .pre .1) g (step-meant (c .before .before .before .before .step-at .ensures) ∙ sym (code-at _ _ _ _ (in-count _ _ _ _ (g .in-leaf))))
+          (of-move (c .before .m2 .given .1) (c .before .before .before .one-step .ensures));
+      less = g .less;
+    }
+
+pub go-on-spec : {M : Type 1} → statement M
+go-on-spec =
+    tie.close
+    (tie.spec
+    Inv-loop
+    μ-loop
+    returns
+    loop-holds
+    cast-place
+    mul-step-at
+    add-step-at
+    step-at-requires
+    (λ c κs. search needs)
+    (λ c. search needs)
+    loop-less
+    loop-again
+    (λ c. search needs)
+    returns-2)

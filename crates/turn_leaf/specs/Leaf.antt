@@ -1,0 +1,123 @@
+-- A leaf's part of a phase, as the code runs it: where one step leads, how the phase begins, and what the leaf came to. Assumes nothing.
+use Prim.Native.Nat.{ℕ, suc, _≤_}
+use mathlib.Core.Path.{_≡_}
+use mathlib.Core.Bool.{Bool, true, false}
+use mathlib.Core.List.{List, [], _∷_}
+use lib.Dec.{T}
+use lib.ListN.{length, getD}
+use Rattle.actions.specs.Sets.{Action, ActionSet}
+use Rattle.policy.specs.Steps.{Step, halt, targets, isNext}
+use Rattle.policy.specs.Tree.{leaf}
+use Rattle.rules.specs.Lawful.{AllAhead, Inside, LawfulLeaf}
+use Rattle.turns.specs.Status.{running, statusOf}
+use Rattle.turns.specs.State.{State, at, leafOver}
+use Rattle.turns.specs.Process.{Item, lets}
+use Rattle.turns.specs.Turn.{Phase, before, after, closing, takeOf, doneOf}
+use Rattle.turns.specs.Turn as turn
+use Rattle.turn_paths.specs.Run.{Run, halts, goes, flat, first, AllSilent}
+use Rattle.turn_paths.specs.Memory.{Cell, held, ranOf}
+use Rattle.turn_memory.specs.Words.{Words, view, Only}
+use Rattle.turn_memory.specs.Phases.{pendingIn}
+use Rattle.turn_leaf.specs.declared.Move.{Move}
+use Rattle.turn_leaf.specs.declared.Move.the-variants.{On, Ends}
+use Rattle.turn_leaf.specs.declared.Last.{Last}
+use Rattle.turn_leaf.specs.declared.Last.the-variants.{Stay, Stops, Inserts, Over}
+use Rattle.turn_leaf.specs.declared.Stop.{Stop}
+use Rattle.turn_leaf.specs.declared.Progress.{Progress}
+use Rattle.turn_leaf.specs.declared.Progress.the-variants.{Insert, Done}
+
+-- p is q after items that are no inserts
+pub record Quietly (p q : Run) : Type 0 where
+  pub items : List Item
+  pub quiet : AllSilent items
+  pub is : p ≡ first items q
+
+-- how leaf i goes on from an offset with a counter, and from where its cell says
+unfoldable pub goesOn : ℕ → List Step → Action → (offset counter : ℕ) → Run
+goesOn i code a o c = flat (turn.goes i code a (suc (length code)) o c)
+
+unfoldable pub onward : ℕ → List Step → Phase → Cell → Run
+onward i code ph x = goesOn i code (pendingIn ph) (x .offset) (x .counter)
+
+-- ---- a step
+
+unfoldable pub ends : State → Bool → Run
+ends s u = halts (record { state = s; suppressed = u })
+
+-- what a leaf's last move leads to, from offset o with counter c: it stays at a next, it stops for the verdict, it inserts, it is over
+unfoldable pub lasts : ℕ → List Step → Action → (offset counter : ℕ) → Last → Run
+lasts i code a o c Stay = ends (at running false o c) false
+lasts i code a o c (Stops t u) = ends (at running true t c) u
+lasts i code a o c (Inserts b t) = goes (lets b) (goesOn i code a t c)
+lasts i code a o c (Over s) = ends (leafOver (statusOf s)) false
+
+unfoldable pub follows : ℕ → List Step → Action → (offset counter : ℕ) → Move → Run
+follows i code a o c (On t n) = goesOn i code a t n
+follows i code a o c (Ends x) = lasts i code a o c x
+
+-- where a move goes on, and the counter that it leaves
+unfoldable pub target : Move → List ℕ
+target (On t n) = t ∷ []
+target (Ends x) = []
+
+unfoldable pub left : ℕ → Move → ℕ
+left c (On t n) = n
+left c (Ends x) = c
+
+-- x is the move of the step s, on action a with counter c
+pub record Taken (s : Step) (a : Action) (c : ℕ) (x : Move) : Type 0 where
+  pub takes : (i o : ℕ) (code : List Step)
+      → Quietly (flat (turn.stepping i a (turn.goes i code a (suc (length code))) o c s)) (follows i code a o c x)
+  pub ahead : (code : List Step) (o : ℕ) → AllAhead code o (targets s) → AllAhead code o (target x)
+  pub inside : (n : ℕ) → Inside n (targets s) → Inside n (target x)
+  pub less : left c x ≤ c
+  pub stays : T (isNext s) → target x ≡ []
+
+-- ---- up to what ends a run
+
+-- a leaf that the rules let pass
+pub record Passing (code : List Step) : Type 0 where
+  pub set : ActionSet
+  pub law : LawfulLeaf set code
+
+-- from offset o with counter c the leaf went on by itself as far as x says
+pub record Stopped (code : List Step) (a : Action) (o c : ℕ) (x : Stop) : Type 0 where
+  pub stops : (i : ℕ) → Quietly (goesOn i code a o c) (lasts i code a (x .offset) (x .counter) (x .last))
+  pub less : x .counter ≤ c
+
+-- ---- where a phase begins
+
+-- the target of a next that is left for a turn, or at closing
+unfoldable pub leaving : Bool → Step → ℕ
+leaving true s = doneOf s
+leaving false s = takeOf s
+
+-- "Before: go from take .. After: go on": where a leaf at this offset begins the phase
+unfoldable pub begins : Phase → List Step → ℕ → ℕ
+begins (before a) code o = takeOf (getD code o halt)
+begins after code o = o
+begins closing code o = doneOf (getD code o halt)
+
+-- ---- what the code leaves behind
+
+module _ (i : ℕ) (r : ActionSet) (c : ℕ) (code : List Step) (ph : Phase) where
+  -- the phase has begun, and the leaf is to go on
+  pub record Left (ws ws′ : Words) : Type 0 where
+    pub begun : Quietly (ranOf (leaf i r c code) ph (held (leaf i r c code) (view ws))) (onward i code ph (view ws′ i))
+    pub runs : view ws′ i .status ≡ running
+    pub only : Only i ws ws′
+
+  -- what the leaf came to: an insert, after which it goes on, or its phase's end
+  unfoldable pub came : Words → Progress → Run
+  came ws′ (Insert b) = goes (lets b) (onward i code ph (view ws′ i))
+  came ws′ (Done u) = halts (record { state = held (leaf i r c code) (view ws′); suppressed = u })
+
+  -- a leaf that has inserted still runs
+  unfoldable pub Waits : Words → Progress → Type 0
+  Waits ws′ (Insert b) = view ws′ i .status ≡ running
+  Waits ws′ (Done u) = Unit {0}
+
+  pub record Ran (ws ws′ : Words) (x : Progress) : Type 0 where
+    pub gives : Quietly (onward i code ph (view ws i)) (came ws′ x)
+    pub waits : Waits ws′ x
+    pub only : Only i ws ws′

@@ -1,0 +1,260 @@
+// A leaf's part of a phase: how it begins, and its run from where it is up to its next insert or to the phase's end.
+ghost use mathlib.Core.Path.{_≡_};
+ghost use mathlib.Core.Bool.{true};
+ghost use Prim.Native.Nat.{ℕ, _+_, _*_, _≤_, _<_};
+ghost use lib.ListN.{length, getD};
+ghost use Rattle.policy.specs.Records.{mostNodes, stepSize};
+ghost use Rattle.policy.specs.Steps.{halt};
+ghost use Rattle.policy.specs.Tree.{leaf};
+ghost use Rattle.turns.specs.Turn.{affords, isAsked};
+ghost use Rattle.reading.specs.Code.{codeAt};
+ghost use Rattle.reading.specs.Kinds.{stepMeant, insOf, acaseOf, spendOf};
+ghost use Rattle.turn_paths.specs.Memory.{held};
+ghost use Rattle.turn_memory.specs.Words.{wordCount, view};
+ghost use Rattle.turn_memory.specs.Phases.{phaseOf, pendingIn};
+ghost use Rattle.turn_leaf.specs.Leaf.{Taken, Passing, Stopped, leaving, begins, Left, Ran};
+use reading::Operand;
+use reading::Step;
+use reading::byte;
+use reading::step_at;
+use turn_memory::counter_at;
+use turn_memory::offset_at;
+use turn_memory::put;
+
+// What a leaf's run came to: an insert, after which it goes on; or its phase's end, and whether it suppressed.
+pub enum Progress {
+    Insert(u8),
+    Done(bool),
+}
+
+// What ends a leaf's run: it stays at a next; it stops at the target, and whether it suppressed; it inserts, to go on from the
+// target; it is over, with its status.
+pub enum Last {
+    Stay,
+    Stops(u8, bool),
+    Inserts(u8, u8),
+    Over(u8),
+}
+
+// Where one step leads: on at the target with what is left of the counter, or to the run's end.
+pub enum Move {
+    On(u8, u64),
+    Ends(Last),
+}
+
+// How far a leaf goes by itself: what ended the run, and the offset and the counter there.
+pub struct Stop {
+    pub last: Last,
+    pub offset: u8,
+    pub counter: u64,
+}
+
+const RUNNING: u8 = 1;
+
+const ENDED: u8 = 2;
+
+const HALTED: u8 = 5;
+
+// A cell's mark: the leaf was asked before the verdict and still runs.
+const MARKED: u8 = 1;
+
+const UNMARKED: u8 = 0;
+
+// A step's size in the file, and the kind of a next.
+const STEP: usize = 12;
+
+const NEXT: u8 = 1;
+
+// The phase after the verdict; below it is an action, before its verdict, and above it closing.
+const AFTER: u8 = 64;
+
+// "Spend shall go to its yes target when the counter is at least n."
+fn affords(counter: u64, amount: u64) -> bool
+    ensures { λ r. ⌜ r ≡ affords counter amount ⌝ }
+{
+    counter >= amount
+}
+
+fn inserts(x: Operand, to: u8, counter: u64) -> Move
+    ensures { λ r. ⌜ ((a : ℕ) → Taken (insOf x to) a counter r) ⌝ }
+{
+    match x {
+        Operand::Action(b) => Move::Ends(Last::Inserts(b, to)),
+        Operand::Set(_) => Move::Ends(Last::Over(HALTED)),
+        Operand::Amount(_) => Move::Ends(Last::Over(HALTED)),
+    }
+}
+
+fn cases(x: Operand, yes: u8, otherwise: u8, action: u8, counter: u64) -> Move
+    ensures { λ r. ⌜ Taken (acaseOf x yes otherwise) action counter r ⌝ }
+{
+    match x {
+        Operand::Action(_) => Move::Ends(Last::Over(HALTED)),
+        Operand::Set(s) => {
+            if s.has(action) {
+                Move::On(yes, counter)
+            } else {
+                Move::On(otherwise, counter)
+            }
+        }
+        Operand::Amount(_) => Move::Ends(Last::Over(HALTED)),
+    }
+}
+
+fn spends(x: Operand, yes: u8, otherwise: u8, counter: u64) -> Move
+    ensures { λ r. ⌜ ((a : ℕ) → Taken (spendOf x yes otherwise) a counter r) ⌝ }
+{
+    match x {
+        Operand::Action(_) => Move::Ends(Last::Over(HALTED)),
+        Operand::Set(_) => Move::Ends(Last::Over(HALTED)),
+        Operand::Amount(n) => {
+            if affords(counter, n) {
+                let rest = counter - n;
+                Move::On(yes, rest)
+            } else {
+                Move::On(otherwise, counter)
+            }
+        }
+    }
+}
+
+fn one_step(step: Step, action: u8, counter: u64) -> Move
+    ensures { λ r. ⌜ Taken (stepMeant step) action counter r ⌝ }
+{
+    match step {
+        Step::Next(_, _) => Move::Ends(Last::Stay),
+        Step::Ok(t) => Move::Ends(Last::Stops(t, false)),
+        Step::Sup(t) => Move::Ends(Last::Stops(t, true)),
+        Step::Ins(x, t) => inserts(x, t, counter),
+        Step::Acase(x, y, z) => cases(x, y, z, action, counter),
+        Step::Spend(x, y, z) => spends(x, y, z, counter),
+        Step::End => Move::Ends(Last::Over(ENDED)),
+        Step::Halt => Move::Ends(Last::Over(HALTED)),
+    }
+}
+
+// The leaf goes on, over steps that no one sees, up to what ends its run. Past its last step it halts.
+fn go_on(policy: &[u8], at: usize, count: usize, action: u8, offset: u8, counter: u64) -> Stop
+    requires { ⌜ (at + stepSize * count ≤ length (now policy)) × Passing (codeAt (now policy) at count) ⌝ }
+    ensures { λ r. ⌜ Stopped (codeAt (now (policy .entry)) at count) action offset counter r ⌝ }
+{
+    if offset as usize >= count {
+        return Stop {
+            last: Last::Over(HALTED),
+            offset,
+            counter,
+        };
+    }
+    let mut o = offset;
+    let mut n = counter;
+    loop {
+        let place = o as usize;
+        let step = step_at(policy, at + STEP * place);
+        let m = one_step(step, action, n);
+        match m {
+            Move::On(t, k) => {
+                o = t;
+                n = k;
+            }
+            Move::Ends(x) => {
+                return Stop {
+                    last: x,
+                    offset: o,
+                    counter: n,
+                };
+            }
+        }
+    }
+}
+
+// ---- where a phase begins
+
+// Where a next leads when it is left: to its take target, at closing to its done target. What is no next leads nowhere. Only here is a
+// step not read as an enum: of a next that is left one byte is wanted, and the enum's reader then has one caller, which it is compiled into.
+fn leaving(policy: &[u8], at: usize, count: usize, offset: u8, closing: bool) -> u8
+    requires { ⌜ at + stepSize * count ≤ length (now policy) ⌝ }
+    ensures { λ r. ⌜ r ≡ leaving closing (getD (codeAt (now (policy .entry)) at count) offset halt) ⌝ }
+{
+    let place = offset as usize;
+    if place >= count {
+        return 0;
+    }
+    let row = at + STEP * place;
+    if byte(policy, row) != NEXT {
+        return 0;
+    }
+    if closing {
+        return byte(policy, row + 3);
+    }
+    byte(policy, row + 2)
+}
+
+fn begin(policy: &[u8], at: usize, count: usize, offset: u8, phase: u8) -> u8
+    requires { ⌜ at + stepSize * count ≤ length (now policy) ⌝ }
+    ensures { λ r. ⌜ r ≡ begins (phaseOf phase) (codeAt (now (policy .entry)) at count) offset ⌝ }
+{
+    if phase == AFTER {
+        return offset;
+    }
+    leaving(policy, at, count, offset, phase > AFTER)
+}
+
+// "Before: go from take .. After: go on": a next is left as the phase begins, but not after the verdict. Writes where the leaf is.
+pub fn leave(policy: &[u8], mem: &mut [u64; 157], node: usize, at: usize, count: usize, phase: u8)
+    requires { ⌜ (length (now mem) ≡ wordCount) × (node < mostNodes) ⌝ }
+    requires { ⌜ at + stepSize * count ≤ length (now policy) ⌝ }
+    ensures { λ _. ⌜ ((r start : ℕ) → isAsked r (phaseOf phase) (held (leaf node r start (codeAt (now (policy .entry)) at count)) (view (now (mem .entry)))) ≡ true
+        → Left node r start (codeAt (now (policy .entry)) at count) (phaseOf phase) (now (mem .entry)) (now (mem .exit))) ⌝ }
+{
+    let to = begin(policy, at, count, offset_at(mem, node), phase);
+    let counter = counter_at(mem, node);
+    put(mem, node, RUNNING, to, UNMARKED, counter);
+}
+
+// The action that is pending: none after the verdict and at closing.
+fn pending(phase: u8) -> u8
+    ensures { λ r. ⌜ r ≡ pendingIn (phaseOf phase) ⌝ }
+{
+    if phase < AFTER {
+        return phase;
+    }
+    0
+}
+
+// Up to the leaf's next insert, or to its phase's end. A leaf that stops for the verdict is marked, to be asked after it; one that is over has
+// offset and counter zero.
+pub fn run(
+    policy: &[u8],
+    mem: &mut [u64; 157],
+    node: usize,
+    at: usize,
+    count: usize,
+    phase: u8,
+) -> Progress
+    requires { ⌜ (length (now mem) ≡ wordCount) × (node < mostNodes) ⌝ }
+    requires { ⌜ (at + stepSize * count ≤ length (now policy)) × Passing (codeAt (now policy) at count) ⌝ }
+    ensures { λ x. ⌜ ((r start : ℕ) → Ran node r start (codeAt (now (policy .entry)) at count) (phaseOf phase) (now (mem .entry)) (now (mem .exit)) x) ⌝ }
+{
+    let offset = offset_at(mem, node);
+    let counter = counter_at(mem, node);
+    let x = go_on(policy, at, count, pending(phase), offset, counter);
+    let last = x.last;
+    match last {
+        Last::Stay => {
+            put(mem, node, RUNNING, x.offset, UNMARKED, x.counter);
+            Progress::Done(false)
+        }
+        Last::Stops(t, u) => {
+            put(mem, node, RUNNING, t, MARKED, x.counter);
+            Progress::Done(u)
+        }
+        Last::Inserts(b, t) => {
+            put(mem, node, RUNNING, t, UNMARKED, x.counter);
+            Progress::Insert(b)
+        }
+        Last::Over(s) => {
+            put(mem, node, s, 0, UNMARKED, 0);
+            Progress::Done(false)
+        }
+    }
+}

@@ -1,0 +1,1 @@
+// Where a node's phase runs in the root's: definitions and theorems, no code.

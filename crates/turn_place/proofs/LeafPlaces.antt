@@ -1,0 +1,86 @@
+-- A leaf where the file has it: its steps, its tree, and its part of a phase. Assumes nothing.
+use Prim.Native.Nat.{ℕ, _+_, _*_, _-_, _≤_, _<_}
+use native.Mathlib.Omega.{arith}
+use mathlib.Core.Path.{_≡_, refl, sym, ap, ap₂, _∙_, subst}
+use mathlib.Core.Bool.{true}
+use mathlib.Core.List.{List}
+use lib.ListN.{length}
+use Rattle.actions.specs.Sets.{ActionSet}
+use Rattle.policy.specs.Bytes.{Bytes}
+use Rattle.policy.specs.Records.{stepSize, nodePlace, nodeAt, nodeCount}
+use Rattle.policy.specs.Steps.{Step}
+use Rattle.policy.specs.Tree.{aLeaf, Tree, leaf, regulated, treeAt}
+use Rattle.rules.specs.Lawful.{LawfulLeaf}
+use Rattle.rules.proofs.Grown.{EachLeaf}
+use Rattle.lawful.proofs.LawfulTree.{lawful-leaves}
+use Rattle.turns.specs.Turn.{Phase, isAsked}
+use Rattle.reading.specs.Code.{codeAt}
+use Rattle.turn_paths.specs.Run.{Run}
+use Rattle.turn_paths.specs.Memory.{held, ranOf}
+use Rattle.turn_memory.specs.Words.{Words, view}
+use Rattle.turn_sides.specs.Sides.{kindAt}
+use Rattle.turn_tables.proofs.FileNodes.{Room, room, tree-leaf, leaf-room}
+use Rattle.turn_leaf.specs.Leaf.{Quietly, Passing, Left, came, Ran}
+use Rattle.turn_leaf.specs.declared.Progress.{Progress}
+use Rattle.turn_leaf.specs.declared.Progress.the-variants.{Insert, Done}
+use Rattle.turn_place.specs.Places.{Stands, Asked, leafRun, StepsOf, Begun, cameTo, WentOn}
+
+pub file-room : {policy : Bytes} {ws : Words} {i : ℕ} → Stands policy ws i → Room policy
+file-room h = room (h .passed)
+
+pub low : {policy : Bytes} {ws : Words} {i : ℕ} → Stands policy ws i → i < 31
+low h = omega (arith, h .inside, file-room h .few)
+
+module _ {policy : Bytes} {ws : Words} {i : ℕ} (h : Stands policy ws i) (ek : kindAt policy i ≡ aLeaf) {at k : ℕ} (s : StepsOf policy i at k) where
+  abbrev set : ActionSet
+  set = nodeAt policy (nodePlace i) .set
+
+  abbrev start : ℕ
+  start = nodeAt policy (nodePlace i) .start
+
+  abbrev here : Tree
+  here = leaf i set start (codeAt policy at k)
+
+  leaf-tree : treeAt policy i ≡ leaf i (nodeAt policy (nodePlace i) .set) (nodeAt policy (nodePlace i) .start) (codeAt policy at k)
+  unfolding kindAt
+  leaf-tree =
+      tree-leaf (h .passed) i (h .inside) ek
+      ∙ ap (λ (ss : List Step). leaf i (nodeAt policy (nodePlace i) .set) (nodeAt policy (nodePlace i) .start) ss) (ap₂ (codeAt policy) (sym (s .0)) (sym (s .1)))
+
+  pub leaf-passing : Passing (codeAt policy at k)
+  unfolding EachLeaf treeAt
+  leaf-passing = record {
+    set = nodeAt policy (nodePlace i) .set;
+    law = subst (EachLeaf (λ i s c code. LawfulLeaf s code)) leaf-tree (lawful-leaves policy (h .passed) (nodeCount policy - i) i);
+  }
+
+  pub leaf-fits : at + stepSize * k ≤ length policy
+  unfolding kindAt
+  leaf-fits = subst (λ (x : ℕ). x ≤ length policy) (sym (ap₂ (λ (x y : ℕ). x + stepSize * y) (s .0) (s .1))) (leaf-room (h .passed) i (h .inside) ek)
+
+  module _ (ph : Phase) (ws′ : Words) where
+    pub leaf-begun : Asked policy ws i ph
+        → ((r c : ℕ) → isAsked r ph (held (leaf i r c (codeAt policy at k)) (view ws)) ≡ true → Left i r c (codeAt policy at k) ph ws ws′) → Begun policy i ph ws ws′
+    unfolding leafRun regulated
+    leaf-begun a g =
+        let z : isAsked set ph (held here (view ws)) ≡ true = subst (λ (t : Tree). isAsked (regulated t) ph (held t (view ws)) ≡ true) leaf-tree a in
+        let l = g set start z in
+        record {
+          begun = subst (λ (t : Tree). Quietly (ranOf t ph (held t (view ws))) (leafRun t ph (view ws′))) (sym leaf-tree) (l .begun);
+          only = l .only;
+        }
+
+    came-to : (x : Progress) → came i set start (codeAt policy at k) ph ws′ x ≡ cameTo here ph ws′ x
+    unfolding came leafRun
+    came-to (Insert b) = refl
+    came-to (Done u) = refl
+
+    pub leaf-went : {x : Progress} → ((r c : ℕ) → Ran i r c (codeAt policy at k) ph ws ws′ x) → WentOn policy i ph ws ws′ x
+    unfolding leafRun
+    leaf-went {x} g =
+        let r = g set start in
+        record {
+          gives = subst (λ (t : Tree). Quietly (leafRun t ph (view ws)) (cameTo t ph ws′ x)) (sym leaf-tree)
+              (subst (λ (q : Run). Quietly (leafRun here ph (view ws)) q) (came-to x) (r .gives));
+          only = r .only;
+        }

@@ -1,0 +1,3 @@
+pub mod LeafPlaces
+pub mod Ways
+pub mod SidePlaces

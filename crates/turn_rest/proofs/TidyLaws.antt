@@ -1,0 +1,167 @@
+-- The saved state at a call's end: once every record is written, each is what the state has of its node, and zeros follow. Assumes nothing.
+use Prim.Native.Nat.{ℕ, zero, _+_, _-_, _*_, _<_}
+use native.Mathlib.Omega.{arith}
+use mathlib.Core.Path.{_≡_, refl, sym, ap, _∙_, subst}
+use mathlib.Core.Bool.{Bool, true, false}
+use mathlib.Core.List.{_++_, append-nil}
+use lib.ListN.{length, take, drop, replicate, length-replicate, length-drop, drop-of-length-le}
+use lib.Seq.{drop-at, length-take-le}
+use Rattle.policy.specs.Bytes.{Bytes, put}
+use Rattle.policy.proofs.ByteLaws.{part-before, zeros-are}
+use Rattle.policy.specs.Records.{nodeCount}
+use Rattle.policy.specs.Tree.{Way, Join, NodeKind, aLeaf, aTrivial, anUnsatisfiable, aPair, noNode, Place, Tree, leaf, trivial, unsatisfiable, node, numberOf, treeAt, tree}
+use Rattle.rules.specs.Passed.{Passed}
+use Rattle.rules.proofs.Grown.{shaped}
+use Rattle.rules.proofs.Numbers.{number-at, all-held}
+use Rattle.lawful.proofs.LawfulTree.{lawful, numbers-below-nodes}
+use Rattle.turns.specs.Status.{Status, dropped, isRunning}
+use Rattle.turns.specs.State as states
+use Rattle.turns.specs.State.{State, at, over, status, offset, counter, leftOf, rightOf, leafOver, noded}
+use Rattle.turns.specs.Saved.{cellSize, cellPlace, cell, saved}
+use Rattle.turns.proofs.Rest.{gone}
+use Rattle.conduct.proofs.Cells.{lawful-apart, cellAt, Kept, kept-same, cells-same, saved-length, saved-kept}
+use Rattle.conduct.proofs.Fits.{saved-tail}
+use Rattle.conduct.proofs.Lasting.{in-cells}
+use Rattle.turn_paths.specs.Memory.{Mem, leafed, held}
+use Rattle.turn_paths.proofs.Begin.{drop-held, noded-over, left-held, right-held}
+use Rattle.turn_memory.specs.Words.{Words, view}
+use Rattle.turn_tables.proofs.FileNodes.{room}
+use Rattle.turn_rest.specs.Rest.{ownOf, recordAt, kindAt}
+use Rattle.turn_rest.specs.Swept.{Swept}
+use Rattle.turn_rest.proofs.SweepLaws.{leftTree, rightTree, each-root}
+
+-- ---- a tree
+
+-- the records of a tree's nodes, and what is dropped under them
+unfoldable Laid : Tree → Mem → Bytes → Type 0
+Laid (leaf i r c code) m out = cellAt out i ≡ cell (leafed (m i .status) (m i .asked) (m i .offset) (m i .counter))
+Laid (trivial i) m out = cellAt out i ≡ cell (leafed (m i .status) (m i .asked) 0 0)
+Laid (unsatisfiable i) m out = cellAt out i ≡ cell (leafed (m i .status) (m i .asked) 0 0)
+Laid (node w j i l r) m out =
+    (cellAt out i ≡ cell (leafed (m i .status) (m i .asked) 0 0))
+    × (isRunning (m i .status) ≡ false → (m (numberOf l) .status ≡ dropped) × (m (numberOf r) .status ≡ dropped))
+    × Laid l m out
+    × Laid r m out
+
+-- a pair's record has its status alone
+noded-cell : (s : Status) (m : Bool) (a b : State) → cell (leafed s m 0 0) ≡ cell (noded s m a b)
+unfolding cell leafed noded leafOver status offset counter
+noded-cell s m a b = go (isRunning s)
+  where
+    go : (x : Bool) → cell (elim x [ true ↦ at s m 0 0 | false ↦ leafOver s ]) ≡ cell (elim x [ true ↦ over s m a b | false ↦ over s false (states.drop a) (states.drop b) ])
+    go true = refl
+    go false = refl
+
+dropped-cell : (s : Status) (m : Bool) (o c : ℕ) → s ≡ dropped → cell (leafed s m o c) ≡ cell (at dropped false 0 0)
+unfolding leafed leafOver isRunning
+dropped-cell s m o c e = ap (λ (x : Status). cell (leafed x m o c)) e
+
+module _ (m : Mem) (out : Bytes) where
+  -- under a node that is dropped all is
+  laid-gone : (t : Tree) → Laid t m out → m (numberOf t) .status ≡ dropped → Kept t (gone t) out
+  unfolding Laid Kept gone numberOf leftOf rightOf
+  laid-gone (leaf i r c code) h d = h ∙ dropped-cell (m i .status) (m i .asked) (m i .offset) (m i .counter) d
+  laid-gone (trivial i) h d = h ∙ dropped-cell (m i .status) (m i .asked) 0 0 d
+  laid-gone (unsatisfiable i) h d = h ∙ dropped-cell (m i .status) (m i .asked) 0 0 d
+  laid-gone (node w j i l r) h d =
+      let z = h .1 (ap isRunning d ∙ unfold isRunning in refl) in (
+        h .0 ∙ dropped-cell (m i .status) (m i .asked) 0 0 d ∙ unfold cell status offset counter in refl,
+        laid-gone l (h .2) (z .0),
+        laid-gone r (h .3) (z .1),
+      )
+
+  -- the sides of a pair, x and y being known of them where it runs
+  laid-sides : (w : Way) (j : Join) (i : ℕ) (l r : Tree) → Laid (node w j i l r) m out → Kept l (held l m) out → Kept r (held r m) out
+      → (b : Bool) → isRunning (m i .status) ≡ b → Kept l (leftOf (held (node w j i l r) m)) out × Kept r (rightOf (held (node w j i l r) m)) out
+  unfolding Laid
+  laid-sides w j i l r h x y true e =
+      (subst (λ (s : State). Kept l s out) (sym (left-held w j i l r m e)) x, subst (λ (s : State). Kept r s out) (sym (right-held w j i l r m e)) y)
+  laid-sides w j i l r h x y false e =
+      let z = h .1 e in
+      let v : held (node w j i l r) m ≡ over (m i .status) false (states.drop (held l m)) (states.drop (held r m)) =
+      unfold held in noded-over (m i .status) (m i .asked) (held l m) (held r m) e in
+      let a : leftOf (held (node w j i l r) m) ≡ gone l = ap leftOf v ∙ unfold leftOf in drop-held l m in
+      let b : rightOf (held (node w j i l r) m) ≡ gone r = ap rightOf v ∙ unfold rightOf in drop-held r m in
+      (subst (λ (s : State). Kept l s out) (sym a) (laid-gone l (h .2) (z .0)), subst (λ (s : State). Kept r s out) (sym b) (laid-gone r (h .3) (z .1)))
+
+  laid-kept : (t : Tree) → Laid t m out → Kept t (held t m) out
+  unfolding Laid Kept held
+  laid-kept (leaf i r c code) h = h
+  laid-kept (trivial i) h = h
+  laid-kept (unsatisfiable i) h = h
+  laid-kept (node w j i l r) h =
+      let z = laid-sides w j i l r h (laid-kept l (h .2)) (laid-kept r (h .3)) (isRunning (m i .status)) refl in
+      (h .0 ∙ noded-cell (m i .status) (m i .asked) (held l m) (held r m), z .0, z .1)
+
+-- ---- the whole state
+
+module _ {file : Bytes} (ok : Passed file) {ws₀ ws : Words} {state : Bytes} (g : Swept file ws₀ ws state (nodeCount file)) where
+  laid-step : (i : ℕ) → i < nodeCount file → (k : NodeKind) → kindAt file i ≡ k → (x : Place)
+      → treeAt file i ≡ shaped k i x (leftTree ok i) (rightTree ok i)
+      → ((w : Way) (j : Join) → k ≡ aPair w j → Laid (leftTree ok i) (view ws) state × Laid (rightTree ok i) (view ws) state)
+      → Laid (shaped k i x (leftTree ok i) (rightTree ok i)) (view ws) state
+  unfolding shaped Laid ownOf cellAt
+  laid-step i h aLeaf e x q f = g .records i h ∙ ap (λ (k : NodeKind). cell (ownOf k (view ws i))) e
+  laid-step i h aTrivial e x q f = g .records i h ∙ ap (λ (k : NodeKind). cell (ownOf k (view ws i))) e
+  laid-step i h anUnsatisfiable e x q f = g .records i h ∙ ap (λ (k : NodeKind). cell (ownOf k (view ws i))) e
+  laid-step i h noNode e x q f = g .records i h ∙ ap (λ (k : NodeKind). cell (ownOf k (view ws i))) e
+  laid-step i h (aPair w j) e x q f = (
+    g .records i h ∙ ap (λ (k : NodeKind). cell (ownOf k (view ws i))) e,
+    λ z.
+        let v = g .sides i h w j e z in (
+          ap (λ (k : ℕ). view ws k .status) (number-at file (recordAt file i .left)) ∙ v .0,
+          ap (λ (k : ℕ). view ws k .status) (number-at file (recordAt file i .right)) ∙ v .1,
+        ),
+    f w j refl .0,
+    f w j refl .1,
+  )
+
+  -- the bytes are those of the state that the words held
+  swept-kept : Kept (tree file) (held (tree file) (view ws₀)) state
+  swept-kept =
+      subst (λ (s : State). Kept (tree file) s state) (g .same)
+      (laid-kept (view ws) state (tree file) (each-root ok (λ t. Laid t (view ws) state) laid-step))
+
+  abbrev t : Tree
+  t = tree file
+
+  abbrev s : State
+  s = held (tree file) (view ws₀)
+
+  abbrev count : ℕ
+  count = nodeCount file
+
+  abbrev zeros : Bytes
+  zeros = replicate (length state - cellPlace count) 0
+
+  cleared-cell : (k : ℕ) → k < count → cellAt (put state (cellPlace count) zeros) k ≡ cellAt state k
+  unfolding cellAt cellPlace
+  cleared-cell k h =
+      part-before state (cellPlace count) zeros (cellPlace k) cellSize (omega (arith, length-replicate (length state - cellPlace count) zero, room ok .few, g .size)) (omega arith)
+
+  cleared-rest : drop (cellPlace count) (put state (cellPlace count) zeros) ≡ zeros
+  unfolding put cellPlace
+  cleared-rest =
+      let l : length zeros ≡ length state - cellPlace count = length-replicate (length state - cellPlace count) zero in
+      drop-at (take (cellPlace count) state) (zeros ++ drop (cellPlace count + length zeros) state) (cellPlace count)
+      (length-take-le (cellPlace count) state (omega (arith, room ok .few, g .size)))
+      ∙ ap (λ (l : Bytes). zeros ++ l) (drop-of-length-le state {i = cellPlace count + length zeros} (omega arith)) ∙ append-nil zeros
+
+  -- "node records from n on .. are zero"
+  saved-rest : drop (cellPlace count) (saved t s) ≡ zeros
+  saved-rest =
+      let e : length (drop (cellPlace count) (saved t s)) ≡ length state - cellPlace count = simp (length-drop, saved-length t (in-cells file ok) s, g .size) in
+      zeros-are (drop (cellPlace count) (saved t s)) (saved-tail count (room ok .few) t (numbers-below-nodes file ok) s) ∙ ap (λ (k : ℕ). replicate k zero) e
+
+  all-tidied : put state (cellPlace count) zeros ≡ saved t s
+  all-tidied =
+      cells-same (put state (cellPlace count) zeros) (saved t s) count
+      (λ i h. cleared-cell i h ∙ kept-same t s state (saved t s) swept-kept (saved-kept t (lawful-apart t (lawful file ok)) (in-cells file ok) s) i (all-held file (ok .kept5) i h))
+      (cleared-rest ∙ sym saved-rest)
+
+-- zeros are written after the records
+pub tidied : {file : Bytes} → Passed file → {n : ℕ} → n ≡ nodeCount file → {ws₀ ws : Words} {state out : Bytes} → Swept file ws₀ ws state n
+    → out ≡ put state (8 * n) (replicate (length state - 8 * n) 0) → out ≡ saved (tree file) (held (tree file) (view ws₀))
+unfolding cellPlace
+tidied {file} ok e {ws₀} {ws} {state} g h =
+    h ∙ ap (λ (k : ℕ). put state (8 * k) (replicate (length state - 8 * k) 0)) e ∙ all-tidied ok (subst (Swept file ws₀ ws state) e g)

@@ -1,0 +1,56 @@
+// The memory that a call begins with.
+ghost use mathlib.Core.Path.{_≡_};
+ghost use Prim.Native.Nat.{_≤_};
+ghost use lib.ListN.{length};
+ghost use Rattle.policy.specs.Records.{mostNodes, nodeCount};
+ghost use Rattle.policy.specs.Tree.{tree};
+ghost use Rattle.rules.specs.Passed.{Passed};
+ghost use Rattle.turns.specs.Turn.{fresh};
+ghost use Rattle.turns.specs.Saved.{stateSize};
+ghost use Rattle.turn_paths.specs.Memory.{held};
+ghost use Rattle.turn_memory.specs.Words.{wordCount, view};
+ghost use Rattle.turn_rest.specs.Rest.{KeptFrom, Woken};
+use reading::node_place;
+use reading::node_start;
+use reading::word64;
+use turn_memory::put;
+
+const RECORD: usize = 8;
+
+// A node that is not yet opened counts as running, and owes the phase after the verdict, which opening is.
+const RUNNING: u8 = 1;
+
+const MARKED: u8 = 1;
+
+// The memory of a call that opens: every node runs, is marked, and stands at its start. A node that is no leaf has the start zero: rule 4.
+pub fn awaken(policy: &[u8], n: usize, mem: &mut [u64; 157])
+    requires { ⌜ Passed (now policy) × (n ≡ nodeCount (now policy)) ⌝ }
+    requires { ⌜ length (now mem) ≡ wordCount ⌝ }
+    ensures { λ _. ⌜ held (tree (now (policy .entry))) (view (now (mem .exit))) ≡ fresh (tree (now (policy .entry))) ⌝ }
+    ensures { λ _. ⌜ KeptFrom n (now (mem .entry)) (now (mem .exit)) ⌝ }
+{
+    let mut i = 0;
+    while i < n {
+        put(
+            mem,
+            i,
+            RUNNING,
+            0,
+            MARKED,
+            node_start(policy, node_place(i)),
+        );
+        i += 1;
+    }
+}
+
+// The memory of a call on a saved state: each node's record as one word.
+pub fn wake(state: &[u8], n: usize, mem: &mut [u64; 157])
+    requires { ⌜ (length (now state) ≡ stateSize) × ((length (now mem) ≡ wordCount) × (n ≤ mostNodes)) ⌝ }
+    ensures { λ _. ⌜ Woken n (now (state .entry)) (now (mem .exit)) × KeptFrom n (now (mem .entry)) (now (mem .exit)) ⌝ }
+{
+    let mut i = 0;
+    while i < n {
+        mem[i] = word64(state, RECORD * i);
+        i += 1;
+    }
+}

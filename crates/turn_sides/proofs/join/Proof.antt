@@ -1,0 +1,32 @@
+-- `join` meets its contract. Assumes nothing.
+use mathlib.Core.Path.{sym, ap, _∙_}
+use Rattle.reading.specs.Kinds as kinds
+use Rattle.reading.specs.declared.Join.{Join}
+use Rattle.turns.specs.Status.{statusOf, joined}
+use borrow.Author.Needs.{needs}
+use Rattle.turn_sides.proofs.join.Statement.{statement}
+use Rattle.turn_sides.proofs.join.Tie as tie
+
+enum-told : tie.Need-enum-told
+enum-told c = search needs
+
+join-and-requires : tie.Need-join-and-requires
+join-and-requires c κs = search needs
+
+enum-told-2 : tie.Need-enum-told-2
+enum-told-2 c = search needs
+
+join-or-requires : tie.Need-join-or-requires
+join-or-requires c κs = search needs
+
+returns : tie.Need-returns
+unfolding kinds.joinOf
+returns c = c .join-and .ensures ∙ ap (λ (x : Join). joined (kinds.joinOf x) (statusOf (c .before .before .before .args .l)) (statusOf (c .before .before .before .args .r))) (sym (c .before .enum-told .given .1))
+
+returns-2 : tie.Need-returns-2
+unfolding kinds.joinOf
+returns-2 c = c .join-or .ensures ∙ ap (λ (x : Join). joined (kinds.joinOf x) (statusOf (c .before .before .before .args .l)) (statusOf (c .before .before .before .args .r))) (sym (c .before .enum-told2 .given .1))
+
+pub join-spec : {M : Type 1} → statement M
+join-spec =
+    tie.close (tie.spec enum-told join-and-requires enum-told-2 join-or-requires returns returns-2)

@@ -1,0 +1,5 @@
+pub mod FileNodes
+pub mod EntryLaws
+pub mod FillLaws
+pub mod LinkLaws
+pub mod TableLaws

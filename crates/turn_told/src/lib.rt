@@ -1,0 +1,42 @@
+// The inserts that a phase let out, told as events: they wait in the call's memory until the phase has ended.
+ghost use mathlib.Core.Path.{_≡_};
+ghost use mathlib.Core.List.{List};
+ghost use Prim.Native.Nat.{_+_, _*_, _≤_};
+ghost use lib.ListN.{length, getD};
+ghost use Rattle.actions.specs.Sets.{Action};
+ghost use Rattle.turn_memory.specs.Words.{countPlace, wordCount};
+ghost use Rattle.turn_memory.specs.Told.{Tells};
+ghost use Rattle.turn_told.specs.Sent.{Kept, Sent};
+
+// Where the number of inserts stands, and the inserts, eight a word.
+const COUNT: usize = 31;
+
+const TOLD: usize = 32;
+
+const BYTES: u64 = 256;
+
+// What an event of an insert begins with.
+const INSERTED: u8 = 3;
+
+// Writes the inserts that were told as events, after so many, and takes them out of the memory. Gives the number of all. The last insert stands
+// lowest in its word, so that they are taken from the last to the first: then every word is left empty.
+pub fn tell(mem: &mut [u64; 157], events: &mut [u8], count: usize) -> usize
+    requires { ⌜ (length (now mem) ≡ wordCount) × (getD (now mem) countPlace 0 ≤ 255) ⌝ }
+    requires { ⌜ 2 * (count + getD (now mem) countPlace 0) ≤ length (now events) ⌝ }
+    ensures { λ _. ⌜ Kept (now (mem .entry)) (now (mem .exit)) ⌝ }
+    ensures { λ r. ⌜ ((es : List Action) → Tells (now (mem .entry)) es → Sent es (now (mem .exit)) (now (events .entry)) (now (events .exit)) count r) ⌝ }
+{
+    let n = mem[COUNT] as usize;
+    let mut k = n;
+    while k > 0 {
+        k -= 1;
+        let at = TOLD + k / 8;
+        let word = mem[at];
+        let place = 2 * (count + k);
+        events[place] = INSERTED;
+        events[place + 1] = (word % BYTES) as u8;
+        mem[at] = word / BYTES;
+    }
+    mem[COUNT] = 0;
+    count + n
+}
