@@ -46,17 +46,20 @@ def balanced(leaves):
     return policy(pairs + [wide_leaf(3 * i) for i in range(leaves)])
 
 
-def relay(action, inserts):
-    """Accepts an action, and inserts the next one so many times before it does."""
+def relay(action, inserts, inserted):
+    """Accepts an action, and inserts another so many times before it does."""
     steps = [step(NEXT, 1, inserts + 2)]
-    steps += [step(INS, o + 1, action=action + 1) for o in range(1, inserts + 1)]
+    steps += [step(INS, o + 1, action=inserted) for o in range(1, inserts + 1)]
     steps += [step(OK, 0), step(END)]
     return leaf(1 << action, steps)
 
 
-def chain(leans_right, inserts):
-    """31 nodes in a chain of sequential nodes, whose first leaves insert so many times each what the next one regulates."""
-    leaves = [relay(a, inserts[a] if a < len(inserts) else 0) for a in range(16)]
+def chain(leans_right, inserts, last=None):
+    """31 nodes in a chain of sequential nodes, whose first leaves insert so many times each what the next one regulates; but the last of
+    them what the last leaf does, if that is asked for."""
+    leaves = [relay(a, inserts[a] if a < len(inserts) else 0, a + 1) for a in range(16)]
+    if last is not None:
+        leaves[len(inserts) - 1] = relay(len(inserts) - 1, inserts[-1], last)
     nodes = []
     if leans_right:
         for i in range(15):
@@ -70,6 +73,7 @@ def chain(leans_right, inserts):
 def main(folder):
     made = {"smallest": policy([(bytes([UNSATISFIABLE]) + bytes(15), b"")])}
     made.update({"right": chain(True, [15, 15]), "left": chain(False, [15, 15]), "relay": chain(True, [1] * 8)})
+    made.update({"deep-right": chain(True, [1] * 8, last=15), "deep-left": chain(False, [1] * 8, last=15)})
     for leaves in (1, 2, 4, 8, 16):
         made["wide%d" % leaves] = balanced(leaves)
     for name, data in made.items():

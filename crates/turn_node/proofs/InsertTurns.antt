@@ -18,7 +18,7 @@ use Rattle.policy.specs.Tree.{treeAt, numberOf}
 use Rattle.rules.proofs.Numbers.{number-at}
 use Rattle.turns.specs.Status.{running, isRunning, joined}
 use Rattle.turns.specs.Process.{Item, lets}
-use Rattle.turns.specs.Turn.{Phase, before, after}
+use Rattle.turns.specs.Turn.{Phase, before, after, isAsked}
 use Rattle.turn_paths.specs.Memory.{Mem}
 use Rattle.turn_paths.specs.Choices.{emits}
 use Rattle.turn_paths.specs.Paths.{Feeder, Ended, done, stopped, Clear, isStop, GoesOn, Turned, Rose}
@@ -36,7 +36,7 @@ use Rattle.turn_sides.proofs.StatusBytes.{phase-before}
 use Rattle.turn_tables.specs.Tables.{asFeeder, pathAt}
 use Rattle.turn_tables.proofs.TableLaws.{path-same}
 use Rattle.turn_ends.specs.Ends.{ended, waitingGives, Rereads, Reread}
-use Rattle.turn_place.specs.Places.{Keeps, Stands, Sequential, Finds}
+use Rattle.turn_place.specs.Places.{Asked, Keeps, Stands, Sequential, Finds}
 use Rattle.turn_place.proofs.LeafPlaces.{low}
 use Rattle.turn_place.proofs.Ways.{stands-on}
 use Rattle.turn_place.proofs.SidePlaces.{way, way-kept, standing}
@@ -205,6 +205,11 @@ module _ {policy : Bytes} {b : Action} {ws₀ ws : Words} {n at fed : ℕ} (h : 
     -- its right side is beneath fewer nodes than the insert had above it
     pub taker-less : size (treeAt policy (rightAt policy p)) + way policy ws p ≤ way policy ws₀ n
     taker-less = omega (arith, at-taker .fewer, way-kept policy p (r .moved .keeps))
+
+    -- and is asked about it
+    pub taker-asked : b < 64 → {y : ℕ} → y ≡ rightAt policy p → Asked policy ws y (phaseOf b)
+    unfolding isAsked
+    taker-asked lb {y} ey = subst (λ (x : ℕ). Asked policy ws x (phaseOf b)) (sym ey) (subst (Asked policy ws (rightAt policy p)) (sym (phase-before b lb)) a)
 
     module _ {y : ℕ} (m : ℕ) {ws₁ : Words} (lb : b < 64) (ey : y ≡ rightAt policy p) (t : TurnsAt policy y (phaseOf b) ws ws₁ m) where
       its-turn : {e : Ended} → ended m ≡ e → Turns (pathAt policy ws₀ p) (treeAt policy (rightAt policy p)) (before b) ws ws₁ e

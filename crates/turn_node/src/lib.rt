@@ -52,6 +52,14 @@ pub fn turn(policy: &[u8], mem: &mut [u64; 157], node: usize, phase: u8) -> usiz
     if !is_asked(mem, node, phase) {
         return ACCEPTED;
     }
+    asked_turn(policy, mem, node, phase)
+}
+
+// The phase of a node that is asked.
+fn asked_turn(policy: &[u8], mem: &mut [u64; 157], node: usize, phase: u8) -> usize
+    requires { ⌜ Stands (now policy) (now mem) node × Asked (now policy) (now mem) node (phaseOf phase) ⌝ }
+    ensures { λ r. ⌜ TurnsAt (now (policy .entry)) node (phaseOf phase) (now (mem .entry)) (now (mem .exit)) r ⌝ }
+{
     let kind = node_kind(policy, node_place(node));
     match kind {
         Kind::Leaf => leaf(policy, mem, node, phase),
@@ -199,7 +207,7 @@ fn rise(policy: &[u8], mem: &mut [u64; 157], node: usize, b: u8) -> Risen
             };
         }
         at = next;
-        let x = turn(policy, mem, right_of(policy, at), b);
+        let x = asked_turn(policy, mem, right_of(policy, at), b);
         if x >= STOPPED {
             return Risen {
                 fed,

@@ -11,7 +11,7 @@ tell-requires : tie.Need-tell-requires
 tell-requires c κs =
     let st = c .before .before .before .before .before .before in
     let w = c .before .before .turn in
-    can-tell (w .result) (st .pre .0) (w .ensures) (st .args .events .now) (st .args .count) (st .pre .1)
+    search (needs, can-tell (w .result) (st .pre .0) (w .ensures) (st .args .events .now) (st .args .count) (st .pre .1))
 
 returns : tie.Need-returns
 returns c =

@@ -32,7 +32,7 @@ loop-holds : tie.Need-loop-holds Inv-loop μ-loop
 loop-holds c = (c .before .pre, (omega arith, here))
 
 above-of-requires : tie.Need-above-of-requires Inv-loop μ-loop
-above-of-requires c κs = low (c .loop .inv .0)
+above-of-requires c κs = omega (arith, low (c .loop .inv .0), low (c .before .before .pre))
 
 returns : tie.Need-returns Inv-loop μ-loop
 returns c =

@@ -29,40 +29,43 @@ use Rattle.turn_node.specs.Turns.{Owing}
 use Rattle.turn_node.proofs.Parts.{keeps-none, keeps-only, keeps-then}
 use Rattle.turn_node.proofs.PairTurns.{phase-turn, left-stops, right-stops, both-end, first-stopped, first-then, right-first-stopped, right-first-over, then-left-stopped, then-left-ends, left-over, own-stopped, own-ends}
 use Rattle.turn_node.proofs.LeafTurns.{itemsLeft, insert-less, byte-ended, Reaches, stays, reaches-then, begun, went, leaf-ends, insert-stopped, insert-through, insert-leaves, leaf-same}
-use Rattle.turn_node.proofs.InsertTurns.{feeds-on, settles-stopped, settles-read, Climbed, climbed-here, stands-now, lets-it-out, taker-stands, taker-pair, taker-less, taken-stopped, stays-there, goes-further, passes-by, settles-on, settles-stop, all-settled, fed-stand, all-the-way, found-none, found-some}
+use Rattle.turn_node.proofs.InsertTurns.{feeds-on, settles-stopped, settles-read, Climbed, climbed-here, stands-now, lets-it-out, taker-stands, taker-pair, taker-less, taker-asked, taken-stopped, stays-there, goes-further, passes-by, settles-on, settles-stop, all-settled, fed-stand, all-the-way, found-none, found-some}
 use Rattle.turn_node.proofs.NodeTurns.{is-asked, idle-turn, trivial-turn, unsatisfiable-turn, kind-at, pair-kind}
 use borrow.Fn.Kinds.{In}
 use borrow.Fn.PlainCycle.{Measures, is, falls, and}
 use Rattle.turn_node.proofs.after_left.Reads as after-left
 use Rattle.turn_node.proofs.after_left.Kinds as after-left-kinds
-use Rattle.turn_node.proofs.+after_left+emit+leaf+parallel+right_first+rise+sequential+settle_insert+sink+turn.Lts-after_left as after-left-lts
+use Rattle.turn_node.proofs.+after_left+asked_turn+emit+leaf+parallel+right_first+rise+sequential+settle_insert+sink+turn.Lts-after_left as after-left-lts
+use Rattle.turn_node.proofs.asked_turn.Reads as asked-turn
+use Rattle.turn_node.proofs.asked_turn.Kinds as asked-turn-kinds
+use Rattle.turn_node.proofs.+after_left+asked_turn+emit+leaf+parallel+right_first+rise+sequential+settle_insert+sink+turn.Lts-asked_turn as asked-turn-lts
 use Rattle.turn_node.proofs.emit.Reads as emit
 use Rattle.turn_node.proofs.emit.Kinds as emit-kinds
-use Rattle.turn_node.proofs.+after_left+emit+leaf+parallel+right_first+rise+sequential+settle_insert+sink+turn.Lts-emit as emit-lts
+use Rattle.turn_node.proofs.+after_left+asked_turn+emit+leaf+parallel+right_first+rise+sequential+settle_insert+sink+turn.Lts-emit as emit-lts
 use Rattle.turn_node.proofs.leaf.Reads as leaf
 use Rattle.turn_node.proofs.leaf.Kinds as leaf-kinds
-use Rattle.turn_node.proofs.+after_left+emit+leaf+parallel+right_first+rise+sequential+settle_insert+sink+turn.Lts-leaf as leaf-lts
+use Rattle.turn_node.proofs.+after_left+asked_turn+emit+leaf+parallel+right_first+rise+sequential+settle_insert+sink+turn.Lts-leaf as leaf-lts
 use Rattle.turn_node.proofs.parallel.Reads as parallel
 use Rattle.turn_node.proofs.parallel.Kinds as parallel-kinds
-use Rattle.turn_node.proofs.+after_left+emit+leaf+parallel+right_first+rise+sequential+settle_insert+sink+turn.Lts-parallel as parallel-lts
+use Rattle.turn_node.proofs.+after_left+asked_turn+emit+leaf+parallel+right_first+rise+sequential+settle_insert+sink+turn.Lts-parallel as parallel-lts
 use Rattle.turn_node.proofs.right_first.Reads as right-first
 use Rattle.turn_node.proofs.right_first.Kinds as right-first-kinds
-use Rattle.turn_node.proofs.+after_left+emit+leaf+parallel+right_first+rise+sequential+settle_insert+sink+turn.Lts-right_first as right-first-lts
+use Rattle.turn_node.proofs.+after_left+asked_turn+emit+leaf+parallel+right_first+rise+sequential+settle_insert+sink+turn.Lts-right_first as right-first-lts
 use Rattle.turn_node.proofs.rise.Reads as rise
 use Rattle.turn_node.proofs.rise.Kinds as rise-kinds
-use Rattle.turn_node.proofs.+after_left+emit+leaf+parallel+right_first+rise+sequential+settle_insert+sink+turn.Lts-rise as rise-lts
+use Rattle.turn_node.proofs.+after_left+asked_turn+emit+leaf+parallel+right_first+rise+sequential+settle_insert+sink+turn.Lts-rise as rise-lts
 use Rattle.turn_node.proofs.sequential.Reads as sequential
 use Rattle.turn_node.proofs.sequential.Kinds as sequential-kinds
-use Rattle.turn_node.proofs.+after_left+emit+leaf+parallel+right_first+rise+sequential+settle_insert+sink+turn.Lts-sequential as sequential-lts
+use Rattle.turn_node.proofs.+after_left+asked_turn+emit+leaf+parallel+right_first+rise+sequential+settle_insert+sink+turn.Lts-sequential as sequential-lts
 use Rattle.turn_node.proofs.settle_insert.Reads as settle-insert
 use Rattle.turn_node.proofs.settle_insert.Kinds as settle-insert-kinds
-use Rattle.turn_node.proofs.+after_left+emit+leaf+parallel+right_first+rise+sequential+settle_insert+sink+turn.Lts-settle_insert as settle-insert-lts
+use Rattle.turn_node.proofs.+after_left+asked_turn+emit+leaf+parallel+right_first+rise+sequential+settle_insert+sink+turn.Lts-settle_insert as settle-insert-lts
 use Rattle.turn_node.proofs.sink.Reads as sink
 use Rattle.turn_node.proofs.sink.Kinds as sink-kinds
-use Rattle.turn_node.proofs.+after_left+emit+leaf+parallel+right_first+rise+sequential+settle_insert+sink+turn.Lts-sink as sink-lts
+use Rattle.turn_node.proofs.+after_left+asked_turn+emit+leaf+parallel+right_first+rise+sequential+settle_insert+sink+turn.Lts-sink as sink-lts
 use Rattle.turn_node.proofs.turn.Reads as turn
 use Rattle.turn_node.proofs.turn.Kinds as turn-kinds
-use Rattle.turn_node.proofs.+after_left+emit+leaf+parallel+right_first+rise+sequential+settle_insert+sink+turn.Lts-turn as turn-lts
+use Rattle.turn_node.proofs.+after_left+asked_turn+emit+leaf+parallel+right_first+rise+sequential+settle_insert+sink+turn.Lts-turn as turn-lts
 use Rattle.actions.proofs.ActionSet.has.Reads as has-reads
 use Rattle.actions.proofs.ActionSet.single.Reads as single-reads
 use Rattle.actions.proofs.ActionSet.union.Reads as union-reads
@@ -84,15 +87,18 @@ use Rattle.turn_sides.proofs.is_running.Reads as is-running-reads
 use Rattle.turn_sides.proofs.joined_at.Reads as joined-at-reads
 use Rattle.turn_sides.proofs.left_of.Reads as left-of-reads
 use Rattle.turn_sides.proofs.right_of.Reads as right-of-reads
-use Rattle.turn_node.proofs.+after_left+emit+leaf+parallel+right_first+rise+sequential+settle_insert+sink+turn.{
+use Rattle.turn_node.proofs.+after_left+asked_turn+emit+leaf+parallel+right_first+rise+sequential+settle_insert+sink+turn.{
   statement,
 }
-use Rattle.turn_node.proofs.+after_left+emit+leaf+parallel+right_first+rise+sequential+settle_insert+sink+turn.Tie.{
+use Rattle.turn_node.proofs.+after_left+asked_turn+emit+leaf+parallel+right_first+rise+sequential+settle_insert+sink+turn.Tie.{
   close,
 }
 
 abbrev μ-after-left : Measures 2 after-left-kinds.ps ℕ
 μ-after-left κs a = 8 * weight (a .0 .now) (a .1 .0 .now) (a .1 .1 .0) + 4
+
+abbrev μ-asked-turn : Measures 2 asked-turn-kinds.ps ℕ
+μ-asked-turn κs a = 8 * weight (a .0 .now) (a .1 .0 .now) (a .1 .1 .0) + 6
 
 abbrev μ-emit : Measures 2 emit-kinds.ps ℕ
 μ-emit κs a = 8 * way (a .0 .now) (a .1 .0 .now) (a .1 .1 .0) + 11
@@ -101,16 +107,16 @@ abbrev μ-leaf : Measures 2 leaf-kinds.ps ℕ
 μ-leaf κs a = 8 * way (a .0 .now) (a .1 .0 .now) (a .1 .1 .0) + 12
 
 abbrev μ-parallel : Measures 2 parallel-kinds.ps ℕ
-μ-parallel κs a = 8 * weight (a .0 .now) (a .1 .0 .now) (a .1 .1 .0) + 6
+μ-parallel κs a = 8 * weight (a .0 .now) (a .1 .0 .now) (a .1 .1 .0) + 5
 
 abbrev μ-right-first : Measures 2 right-first-kinds.ps ℕ
-μ-right-first κs a = 8 * weight (a .0 .now) (a .1 .0 .now) (a .1 .1 .0) + 5
+μ-right-first κs a = 8 * weight (a .0 .now) (a .1 .0 .now) (a .1 .1 .0) + 4
 
 abbrev μ-rise : Measures 2 rise-kinds.ps ℕ
 μ-rise κs a = 8 * way (a .0 .now) (a .1 .0 .now) (a .1 .1 .0) + 10
 
 abbrev μ-sequential : Measures 2 sequential-kinds.ps ℕ
-μ-sequential κs a = 8 * weight (a .0 .now) (a .1 .0 .now) (a .1 .1 .0) + 6
+μ-sequential κs a = 8 * weight (a .0 .now) (a .1 .0 .now) (a .1 .1 .0) + 5
 
 abbrev μ-settle-insert : Measures 2 settle-insert-kinds.ps ℕ
 μ-settle-insert κs a = 8 * (size (treeAt (a .0 .now) (rightAt (a .0 .now) (a .1 .1 .0))) + way (a .0 .now) (a .1 .0 .now) (a .1 .1 .0)) + 9
@@ -128,6 +134,12 @@ after-left-at t =
 abbrev after-left-below : ℕ → In 2 after-left-kinds.ps
 after-left-below t =
     and 2 after-left-kinds.ps (falls 2 after-left-kinds.ps _<_ μ-after-left t) after-left.Pre
+
+abbrev asked-turn-at : ℕ → In 2 asked-turn-kinds.ps
+asked-turn-at t = and 2 asked-turn-kinds.ps (is 2 asked-turn-kinds.ps μ-asked-turn t) asked-turn.Pre
+
+abbrev asked-turn-below : ℕ → In 2 asked-turn-kinds.ps
+asked-turn-below t = and 2 asked-turn-kinds.ps (falls 2 asked-turn-kinds.ps _<_ μ-asked-turn t) asked-turn.Pre
 
 abbrev emit-at : ℕ → In 2 emit-kinds.ps
 emit-at t = and 2 emit-kinds.ps (is 2 emit-kinds.ps μ-emit t) emit.Pre
@@ -197,6 +209,9 @@ turn-below t = and 2 turn-kinds.ps (falls 2 turn-kinds.ps _<_ μ-turn t) turn.Pr
 abbrev after-left-calls : ℕ → after-left-lts.Claims
 after-left-calls t = (joined-at-reads.Asked, joined-at-reads.Learnt, is-running-reads.Asked, is-running-reads.Learnt, goes-on-reads.Asked, goes-on-reads.Learnt, seq-end-reads.Asked, seq-end-reads.Learnt, right-of-reads.Asked, right-of-reads.Learnt, turn-below t, turn.Post)
 
+abbrev asked-turn-calls : ℕ → asked-turn-lts.Claims
+asked-turn-calls t = (node-place-reads.Asked, node-place-reads.Learnt, node-kind-reads.Asked, node-kind-reads.Learnt, leaf-below t, leaf.Post, over-reads.Asked, over-reads.Learnt, parallel-below t, parallel.Post, sequential-below t, sequential.Post)
+
 abbrev emit-calls : ℕ → emit-lts.Claims
 emit-calls t = (rise-below t, rise.Post, sink-below t, sink.Post)
 
@@ -210,7 +225,7 @@ abbrev right-first-calls : ℕ → right-first-lts.Claims
 right-first-calls t = (right-of-reads.Asked, right-of-reads.Learnt, turn-below t, turn.Post, joined-at-reads.Asked, joined-at-reads.Learnt, is-running-reads.Asked, is-running-reads.Learnt, seq-end-reads.Asked, seq-end-reads.Learnt, left-of-reads.Asked, left-of-reads.Learnt, caught-reads.Asked, caught-reads.Learnt)
 
 abbrev rise-calls : ℕ → rise-lts.Claims
-rise-calls t = (taker-reads.Asked, taker-reads.Learnt, say-reads.Asked, say-reads.Learnt, right-of-reads.Asked, right-of-reads.Learnt, turn-below t, turn.Post, single-reads.Asked, single-reads.Learnt, union-reads.Asked, union-reads.Learnt, lets-on-reads.Asked, lets-on-reads.Learnt)
+rise-calls t = (taker-reads.Asked, taker-reads.Learnt, say-reads.Asked, say-reads.Learnt, right-of-reads.Asked, right-of-reads.Learnt, asked-turn-below t, asked-turn.Post, single-reads.Asked, single-reads.Learnt, union-reads.Asked, union-reads.Learnt, lets-on-reads.Asked, lets-on-reads.Learnt)
 
 abbrev sequential-calls : ℕ → sequential-lts.Claims
 sequential-calls t = (right-first-below t, right-first.Post, left-of-reads.Asked, left-of-reads.Learnt, turn-below t, turn.Post, caught-reads.Asked, caught-reads.Learnt, after-left-below t, after-left.Post)
@@ -222,7 +237,7 @@ abbrev sink-calls : ℕ → sink-lts.Claims
 sink-calls t = (has-reads.Asked, has-reads.Learnt, settle-insert-below t, settle-insert.Post)
 
 abbrev turn-calls : ℕ → turn-lts.Claims
-turn-calls t = (is-asked-reads.Asked, is-asked-reads.Learnt, node-place-reads.Asked, node-place-reads.Learnt, node-kind-reads.Asked, node-kind-reads.Learnt, leaf-below t, leaf.Post, over-reads.Asked, over-reads.Learnt, parallel-below t, parallel.Post, sequential-below t, sequential.Post)
+turn-calls t = (is-asked-reads.Asked, is-asked-reads.Learnt, asked-turn-below t, asked-turn.Post)
 
 after-left-joined-at-requires : (t : ℕ) → after-left-lts.Need-joined-at-requires (after-left-calls t) (after-left-at t) after-left.Post
 after-left-joined-at-requires t c κs =
@@ -235,7 +250,7 @@ after-left-goes-on-requires t c κs = c .before .before .before .before .pre .1 
 after-left-seq-end-requires : (t : ℕ) → after-left-lts.Need-seq-end-requires (after-left-calls t) (after-left-at t) after-left.Post
 after-left-seq-end-requires t c κs =
     let e = c .before .before .before .before .before .before .before in
-    ((sided-of (e .pre .1 .0) (e .pre .1 .1 .0), e .pre .1 .0 .sized), e .pre .1 .1 .1 .0)
+    ((sided-of (e .pre .1 .0) (e .pre .1 .1 .0), e .pre .1 .0 .sized), omega (arith, e .pre .1 .1 .1 .0))
 
 after-left-returns : (t : ℕ) → after-left-lts.Need-returns (after-left-calls t) (after-left-at t) after-left.Post
 after-left-returns t c =
@@ -262,12 +277,74 @@ after-left-returns-2 t c =
 after-left-seq-end-requires-2 : (t : ℕ) → after-left-lts.Need-seq-end-requires-2 (after-left-calls t) (after-left-at t) after-left.Post
 after-left-seq-end-requires-2 t c κs =
     let e = c .before .before .before .before .before .before .before .before .before .before .before in
-    ((sided-of (e .pre .1 .0) (e .pre .1 .1 .0), c .before .before .turn .ensures .keeps .sized ∙ e .pre .1 .0 .sized), c .before .if2 .left)
+    ((sided-of (e .pre .1 .0) (e .pre .1 .1 .0), c .before .before .turn .ensures .keeps .sized ∙ e .pre .1 .0 .sized), omega (arith, c .before .if2 .left, e .pre .1 .1 .1 .0))
 
 after-left-returns-3 : (t : ℕ) → after-left-lts.Need-returns-3 (after-left-calls t) (after-left-at t) after-left.Post
 after-left-returns-3 t c =
     let e = c .before .before .before .before .before .before .before .before .before .before .before .before in
     own-ends (e .pre .1 .0) (e .pre .1 .1 .0) (phaseOf (e .args .phase)) (e .args .x) (ap (λ (v : Bool). goesOn (phaseOf (e .args .phase)) v (eqb (e .args .x) 1)) (sym (c .before .before .before .before .before .before .before .before .is-running .ensures ∙ ap isRunning (c .before .before .before .before .before .before .before .before .before .joined-at .ensures))) ∙ sym (c .before .before .before .before .before .before .before .goes-on .ensures) ∙ not-false _ (c .before .before .before .before .before .before .if1 .left)) (c .before .before .before .turn .result) (c .before .before .before .before .right-of .ensures) (c .before .before .before .turn .ensures) (c .before .before .if2 .left) (c .seq-end2 .result) (c .seq-end2 .ensures)
+
+asked-turn-node-place-requires : (t : ℕ) → asked-turn-lts.Need-node-place-requires (asked-turn-calls t) (asked-turn-at t) asked-turn.Post
+asked-turn-node-place-requires t c κs = omega (arith, low (c .before .pre .1 .0))
+
+asked-turn-node-kind-requires : (t : ℕ) → asked-turn-lts.Need-node-kind-requires (asked-turn-calls t) (asked-turn-at t) asked-turn.Post
+asked-turn-node-kind-requires t c κs =
+    let e = c .before .before in
+    node-room (e .pre .1 .0 .passed) _ _ (e .pre .1 .0 .inside) (c .node-place .ensures)
+
+asked-turn-leaf-requires : (t : ℕ) → asked-turn-lts.Need-leaf-requires (asked-turn-calls t) (asked-turn-at t) asked-turn.Post
+unfolding kindOf
+asked-turn-leaf-requires t c κs =
+    let e = c .before .before .before .before .before .before in
+    (omega (arith, e .pre .0, size-some (treeAt (e .args .policy .now) (e .args .node))), (e .pre .1 .0, (kind-at _ _ (c .before .before .before .before .node-place .ensures) _ (c .before .before .before .node-kind .ensures) (c .before .enum-told .given .1), e .pre .1 .1)))
+
+asked-turn-over-requires : (t : ℕ) → asked-turn-lts.Need-over-requires (asked-turn-calls t) (asked-turn-at t) asked-turn.Post
+asked-turn-over-requires t c κs = low (c .before .before .before .before .before .before .pre .1 .0)
+
+asked-turn-over-requires-2 : (t : ℕ) → asked-turn-lts.Need-over-requires-2 (asked-turn-calls t) (asked-turn-at t) asked-turn.Post
+asked-turn-over-requires-2 t c κs = low (c .before .before .before .before .before .before .pre .1 .0)
+
+asked-turn-parallel-requires : (t : ℕ) → asked-turn-lts.Need-parallel-requires (asked-turn-calls t) (asked-turn-at t) asked-turn.Post
+unfolding wayOf
+asked-turn-parallel-requires t c κs =
+    let e = c .before .before .before .before .before .before .before .before .before in
+    (omega (arith, e .pre .0), (e .pre .1 .0, (pair-kind _ _ (c .before .before .before .before .before .before .before .node-place .ensures) _ (c .before .before .before .before .before .before .node-kind .ensures) (c .before .before .before .before .kind .given .1) (c .before .enum-told4 .given .1), e .pre .1 .1)))
+
+asked-turn-sequential-requires : (t : ℕ) → asked-turn-lts.Need-sequential-requires (asked-turn-calls t) (asked-turn-at t) asked-turn.Post
+unfolding wayOf
+asked-turn-sequential-requires t c κs =
+    let e = c .before .before .before .before .before .before .before .before .before in
+    (omega (arith, e .pre .0), (e .pre .1 .0, (pair-kind _ _ (c .before .before .before .before .before .before .before .node-place .ensures) _ (c .before .before .before .before .before .before .node-kind .ensures) (c .before .before .before .before .kind .given .1) (c .before .enum-told5 .given .1), e .pre .1 .1)))
+
+asked-turn-over-requires-3 : (t : ℕ) → asked-turn-lts.Need-over-requires-3 (asked-turn-calls t) (asked-turn-at t) asked-turn.Post
+asked-turn-over-requires-3 t c κs = low (c .before .before .before .before .before .before .pre .1 .0)
+
+asked-turn-returns : (t : ℕ) → asked-turn-lts.Need-returns (asked-turn-calls t) (asked-turn-at t) asked-turn.Post
+asked-turn-returns t c = c .leaf .ensures
+
+asked-turn-returns-2 : (t : ℕ) → asked-turn-lts.Need-returns-2 (asked-turn-calls t) (asked-turn-at t) asked-turn.Post
+unfolding kindOf shaped
+asked-turn-returns-2 t c =
+    let e = c .before .before .before .before .before .before .before in
+    trivial-turn (e .pre .1 .0) _ (e .pre .1 .1) (c .over .ensures .0) (tree-read (e .pre .1 .0 .passed) _ (e .pre .1 .0 .inside) (c .before .before .before .before .before .node-place .ensures) _ (c .before .before .before .before .node-kind .ensures) (c .before .before .enum-told2 .given .1)) (c .over .ensures .1)
+
+asked-turn-returns-3 : (t : ℕ) → asked-turn-lts.Need-returns-3 (asked-turn-calls t) (asked-turn-at t) asked-turn.Post
+unfolding kindOf shaped
+asked-turn-returns-3 t c =
+    let e = c .before .before .before .before .before .before .before in
+    unsatisfiable-turn (e .pre .1 .0) _ (e .pre .1 .1) (c .over2 .ensures .0) (tree-read (e .pre .1 .0 .passed) _ (e .pre .1 .0 .inside) (c .before .before .before .before .before .node-place .ensures) _ (c .before .before .before .before .node-kind .ensures) (c .before .before .enum-told3 .given .1)) (c .over2 .ensures .1)
+
+asked-turn-returns-4 : (t : ℕ) → asked-turn-lts.Need-returns-4 (asked-turn-calls t) (asked-turn-at t) asked-turn.Post
+asked-turn-returns-4 t c = c .parallel .ensures
+
+asked-turn-returns-5 : (t : ℕ) → asked-turn-lts.Need-returns-5 (asked-turn-calls t) (asked-turn-at t) asked-turn.Post
+asked-turn-returns-5 t c = c .sequential .ensures
+
+asked-turn-returns-6 : (t : ℕ) → asked-turn-lts.Need-returns-6 (asked-turn-calls t) (asked-turn-at t) asked-turn.Post
+unfolding kindOf shaped
+asked-turn-returns-6 t c =
+    let e = c .before .before .before .before .before .before .before in
+    trivial-turn (e .pre .1 .0) _ (e .pre .1 .1) (c .over3 .ensures .0) (tree-read (e .pre .1 .0 .passed) _ (e .pre .1 .0 .inside) (c .before .before .before .before .before .node-place .ensures) _ (c .before .before .before .before .node-kind .ensures) (c .before .before .enum-told6 .given .1)) (c .over3 .ensures .1)
 
 emit-rise-requires : (t : ℕ) → emit-lts.Need-rise-requires (emit-calls t) (emit-at t) emit.Post
 emit-rise-requires t c κs =
@@ -329,7 +406,7 @@ leaf-returns t c =
     let b = begun h ph (c .before .before .before .before .before .before .before .before .before .begin-leaf .ensures) in
     let h₁ = stands-on h (b .moved .keeps) in
     let w = subst (WentOn (e .args .policy .now) (e .args .node) ph _ _) (c .before .before .before .before .x .given .1) (c .before .before .before .before .before .before .run-leaf .ensures) in
-    insert-stopped h ph (went h ph (reaches-then h b (c .before .before .before .before .before .before .before .before .loop .inv)) _ w) (c .before .emit .result) (c .before .emit .ensures) refl (c .if1 .taken)
+    insert-stopped h ph (went h ph (reaches-then h b (c .before .before .before .before .before .before .before .before .loop .inv)) _ w) (c .before .emit .result) (c .before .emit .ensures) refl (omega (arith, c .if1 .taken))
 
 leaf-loop-less : (t : ℕ) → leaf-lts.Need-loop-less (leaf-calls t) (leaf-at t) leaf.Post leaf-Inv-loop leaf-μ-loop
 leaf-loop-less t c =
@@ -399,7 +476,7 @@ parallel-returns-2 t c =
 parallel-par-end-requires : (t : ℕ) → parallel-lts.Need-par-end-requires (parallel-calls t) (parallel-at t) parallel.Post
 parallel-par-end-requires t c κs =
     let e = c .before .before .before .before .before .before .before .before .before .before in
-    ((sided-of (e .pre .1 .0) (e .pre .1 .1 .0), c .before .before .turn2 .ensures .keeps .sized ∙ c .before .before .before .before .before .before .turn .ensures .keeps .sized ∙ e .pre .1 .0 .sized), (c .before .before .before .before .before .if1 .left, c .before .if2 .left))
+    ((sided-of (e .pre .1 .0) (e .pre .1 .1 .0), c .before .before .turn2 .ensures .keeps .sized ∙ c .before .before .before .before .before .before .turn .ensures .keeps .sized ∙ e .pre .1 .0 .sized), (omega (arith, c .before .before .before .before .before .if1 .left, c .before .if2 .left), omega (arith, c .before .before .before .before .before .if1 .left, c .before .if2 .left)))
 
 parallel-returns-3 : (t : ℕ) → parallel-lts.Need-returns-3 (parallel-calls t) (parallel-at t) parallel.Post
 parallel-returns-3 t c =
@@ -503,18 +580,18 @@ rise-right-of-requires t c κs =
     let f = found-some _ _ _ _ _ (c .before .if1 .left) (c .before .before .taker .ensures .0) (c .before .before .taker .ensures .1) in
     placed-here (sided-of (taker-stands (e .pre .1) (c .before .before .before .before .loop .inv) (f .0) (f .1) (f .2 .0)) (taker-pair (e .pre .1) (c .before .before .before .before .loop .inv) (f .0) (f .1) (f .2 .0)))
 
-rise-turn-requires : (t : ℕ) → rise-lts.Need-turn-requires (rise-calls t) (rise-at t) rise.Post rise-Inv-loop rise-μ-loop
-rise-turn-requires t c κs =
+rise-asked-turn-requires : (t : ℕ) → rise-lts.Need-asked-turn-requires (rise-calls t) (rise-at t) rise.Post rise-Inv-loop rise-μ-loop
+rise-asked-turn-requires t c κs =
     let e = c .before .before .before .before .before .before .before in
     let f = found-some _ _ _ _ _ (c .before .before .if1 .left) (c .before .before .before .taker .ensures .0) (c .before .before .before .taker .ensures .1) in
     let h = taker-stands (e .pre .1) (c .before .before .before .before .before .loop .inv) (f .0) (f .1) (f .2 .0) in
     let k = taker-pair (e .pre .1) (c .before .before .before .before .before .loop .inv) (f .0) (f .1) (f .2 .0) in
-    (omega (arith, e .pre .0, right-weight h k (c .right-of .ensures), taker-less (e .pre .1) (c .before .before .before .before .before .loop .inv) (f .0) (f .1) (f .2 .0)), right-stands h k (c .right-of .ensures))
+    (omega (arith, e .pre .0, right-weight h k (c .right-of .ensures), taker-less (e .pre .1) (c .before .before .before .before .before .loop .inv) (f .0) (f .1) (f .2 .0)), (right-stands h k (c .right-of .ensures), taker-asked (e .pre .1) (c .before .before .before .before .before .loop .inv) (f .0) (f .1) (f .2 .0) (f .2 .1) (c .right-of .ensures)))
 
 rise-returns-2 : (t : ℕ) → rise-lts.Need-returns-2 (rise-calls t) (rise-at t) rise.Post rise-Inv-loop rise-μ-loop
 rise-returns-2 t c = let f = found-some _ _ _ _ _ (c .before .before .before .before .if1 .left) (c .before .before .before .before .before .taker .ensures .0) (c .before .before .before .before .before .taker .ensures .1) in
     record {
-      stops = λ l. taken-stopped (c .before .before .before .before .before .before .before .before .before .pre .1) (c .before .before .before .before .before .before .before .loop .inv) (f .0) (f .1) (f .2 .0) (c .before .turn .result) (f .2 .1) (c .before .before .right-of .ensures) (c .before .turn .ensures) (c .if2 .taken);
+      stops = λ l. taken-stopped (c .before .before .before .before .before .before .before .before .before .pre .1) (c .before .before .before .before .before .before .before .loop .inv) (f .0) (f .1) (f .2 .0) (c .before .asked-turn .result) (f .2 .1) (c .before .before .right-of .ensures) (c .before .asked-turn .ensures) (c .if2 .taken);
       over = λ g. absurd (omega (arith, g, c .if2 .taken));
     }
 
@@ -532,7 +609,7 @@ rise-returns-3 : (t : ℕ) → rise-lts.Need-returns-3 (rise-calls t) (rise-at t
 rise-returns-3 t c = let f = found-some _ _ _ _ _ (c .before .before .before .before .before .before .before .before .before .if1 .left) (c .before .before .before .before .before .before .before .before .before .before .taker .ensures .0) (c .before .before .before .before .before .before .before .before .before .before .taker .ensures .1) in
     record {
       stops = λ l. absurd (omega (arith, l));
-      over = λ g. stays-there (c .before .before .before .before .before .before .before .before .before .before .before .before .before .before .pre .1) (c .before .before .before .before .before .before .before .before .before .before .before .before .loop .inv) (f .0) (f .1) (f .2 .0) (c .before .before .before .before .before .before .turn .result) (f .2 .1) (c .before .before .before .before .before .before .before .right-of .ensures) (c .before .before .before .before .before .before .turn .ensures) (c .before .before .before .before .before .if2 .left) (sym (c .before .lets-on .ensures) ∙ not-true _ (c .if3 .taken)) _ (c .before .before .before .union .ensures ∙ ap (union (c .before .before .before .before .before .before .before .before .before .before .before .before .loop .fed .bits)) (c .before .before .before .before .single .ensures));
+      over = λ g. stays-there (c .before .before .before .before .before .before .before .before .before .before .before .before .before .before .pre .1) (c .before .before .before .before .before .before .before .before .before .before .before .before .loop .inv) (f .0) (f .1) (f .2 .0) (c .before .before .before .before .before .before .asked-turn .result) (f .2 .1) (c .before .before .before .before .before .before .before .right-of .ensures) (c .before .before .before .before .before .before .asked-turn .ensures) (c .before .before .before .before .before .if2 .left) (sym (c .before .lets-on .ensures) ∙ not-true _ (c .if3 .taken)) _ (c .before .before .before .union .ensures ∙ ap (union (c .before .before .before .before .before .before .before .before .before .before .before .before .loop .fed .bits)) (c .before .before .before .before .single .ensures));
     }
 
 rise-loop-less : (t : ℕ) → rise-lts.Need-loop-less (rise-calls t) (rise-at t) rise.Post rise-Inv-loop rise-μ-loop
@@ -540,7 +617,7 @@ rise-loop-less t c = let f = found-some _ _ _ _ _ (c .before .before .before .be
 
 rise-loop-again : (t : ℕ) → rise-lts.Need-loop-again (rise-calls t) (rise-at t) rise.Post rise-Inv-loop rise-μ-loop
 rise-loop-again t c = let f = found-some _ _ _ _ _ (c .before .before .before .before .before .before .before .before .before .if1 .left) (c .before .before .before .before .before .before .before .before .before .before .taker .ensures .0) (c .before .before .before .before .before .before .before .before .before .before .taker .ensures .1) in
-    goes-further (c .before .before .before .before .before .before .before .before .before .before .before .before .before .before .pre .1) (c .before .before .before .before .before .before .before .before .before .before .before .before .loop .inv) (f .0) (f .1) (f .2 .0) (c .before .before .before .before .before .before .turn .result) (f .2 .1) (c .before .before .before .before .before .before .before .right-of .ensures) (c .before .before .before .before .before .before .turn .ensures) (c .before .before .before .before .before .if2 .left) (sym (c .before .lets-on .ensures) ∙ not-false _ (c .if3 .left)) _ (c .before .before .before .union .ensures ∙ ap (union (c .before .before .before .before .before .before .before .before .before .before .before .before .loop .fed .bits)) (c .before .before .before .before .single .ensures))
+    goes-further (c .before .before .before .before .before .before .before .before .before .before .before .before .before .before .pre .1) (c .before .before .before .before .before .before .before .before .before .before .before .before .loop .inv) (f .0) (f .1) (f .2 .0) (c .before .before .before .before .before .before .asked-turn .result) (f .2 .1) (c .before .before .before .before .before .before .before .right-of .ensures) (c .before .before .before .before .before .before .asked-turn .ensures) (c .before .before .before .before .before .if2 .left) (sym (c .before .lets-on .ensures) ∙ not-false _ (c .if3 .left)) _ (c .before .before .before .union .ensures ∙ ap (union (c .before .before .before .before .before .before .before .before .before .before .before .before .loop .fed .bits)) (c .before .before .before .before .single .ensures))
 
 sequential-right-first-requires : (t : ℕ) → sequential-lts.Need-right-first-requires (sequential-calls t) (sequential-at t) sequential.Post
 sequential-right-first-requires t c κs =
@@ -565,7 +642,7 @@ sequential-turn-requires t c κs =
     (omega (arith, e .pre .0, left-less h k (c .left-of .ensures)), left-stands h k (c .left-of .ensures))
 
 sequential-caught-requires : (t : ℕ) → sequential-lts.Need-caught-requires (sequential-calls t) (sequential-at t) sequential.Post
-sequential-caught-requires t c κs = low (c .before .before .before .before .before .before .pre .1 .0)
+sequential-caught-requires t c κs = omega (arith, low (c .before .before .before .before .before .before .pre .1 .0))
 
 sequential-returns-2 : (t : ℕ) → sequential-lts.Need-returns-2 (sequential-calls t) (sequential-at t) sequential.Post
 sequential-returns-2 t c =
@@ -664,73 +741,20 @@ turn-is-asked-requires t c κs = low (c .before .before .pre .1)
 turn-returns : (t : ℕ) → turn-lts.Need-returns (turn-calls t) (turn-at t) turn.Post
 turn-returns t c = idle-turn (c .before .before .before .before .pre .1) _ (c .before .is-asked .ensures) (not-true _ (c .if1 .taken))
 
-turn-node-place-requires : (t : ℕ) → turn-lts.Need-node-place-requires (turn-calls t) (turn-at t) turn.Post
-turn-node-place-requires t c κs = omega (arith, low (c .before .before .before .before .pre .1))
-
-turn-node-kind-requires : (t : ℕ) → turn-lts.Need-node-kind-requires (turn-calls t) (turn-at t) turn.Post
-turn-node-kind-requires t c κs =
+turn-asked-turn-requires : (t : ℕ) → turn-lts.Need-asked-turn-requires (turn-calls t) (turn-at t) turn.Post
+turn-asked-turn-requires t c κs =
     let e = c .before .before .before .before .before in
-    node-room (e .pre .1 .passed) _ _ (e .pre .1 .inside) (c .node-place .ensures)
-
-turn-leaf-requires : (t : ℕ) → turn-lts.Need-leaf-requires (turn-calls t) (turn-at t) turn.Post
-unfolding kindOf
-turn-leaf-requires t c κs =
-    let e = c .before .before .before .before .before .before .before .before .before in
-    (omega (arith, e .pre .0, size-some (treeAt (e .args .policy .now) (e .args .node))), (e .pre .1, (kind-at _ _ (c .before .before .before .before .node-place .ensures) _ (c .before .before .before .node-kind .ensures) (c .before .enum-told .given .1), is-asked (e .pre .1) _ (c .before .before .before .before .before .before .is-asked .ensures) (not-false _ (c .before .before .before .before .before .if1 .left)))))
-
-turn-over-requires : (t : ℕ) → turn-lts.Need-over-requires (turn-calls t) (turn-at t) turn.Post
-turn-over-requires t c κs = low (c .before .before .before .before .before .before .before .before .before .pre .1)
-
-turn-over-requires-2 : (t : ℕ) → turn-lts.Need-over-requires-2 (turn-calls t) (turn-at t) turn.Post
-turn-over-requires-2 t c κs = low (c .before .before .before .before .before .before .before .before .before .pre .1)
-
-turn-parallel-requires : (t : ℕ) → turn-lts.Need-parallel-requires (turn-calls t) (turn-at t) turn.Post
-unfolding wayOf
-turn-parallel-requires t c κs =
-    let e = c .before .before .before .before .before .before .before .before .before .before .before .before in
-    (omega (arith, e .pre .0), (e .pre .1, (pair-kind _ _ (c .before .before .before .before .before .before .before .node-place .ensures) _ (c .before .before .before .before .before .before .node-kind .ensures) (c .before .before .before .before .kind .given .1) (c .before .enum-told4 .given .1), is-asked (e .pre .1) _ (c .before .before .before .before .before .before .before .before .before .is-asked .ensures) (not-false _ (c .before .before .before .before .before .before .before .before .if1 .left)))))
-
-turn-sequential-requires : (t : ℕ) → turn-lts.Need-sequential-requires (turn-calls t) (turn-at t) turn.Post
-unfolding wayOf
-turn-sequential-requires t c κs =
-    let e = c .before .before .before .before .before .before .before .before .before .before .before .before in
-    (omega (arith, e .pre .0), (e .pre .1, (pair-kind _ _ (c .before .before .before .before .before .before .before .node-place .ensures) _ (c .before .before .before .before .before .before .node-kind .ensures) (c .before .before .before .before .kind .given .1) (c .before .enum-told5 .given .1), is-asked (e .pre .1) _ (c .before .before .before .before .before .before .before .before .before .is-asked .ensures) (not-false _ (c .before .before .before .before .before .before .before .before .if1 .left)))))
-
-turn-over-requires-3 : (t : ℕ) → turn-lts.Need-over-requires-3 (turn-calls t) (turn-at t) turn.Post
-turn-over-requires-3 t c κs = low (c .before .before .before .before .before .before .before .before .before .pre .1)
+    (omega (arith, e .pre .0), (e .pre .1, is-asked (e .pre .1) _ (c .before .before .is-asked .ensures) (not-false _ (c .before .if1 .left))))
 
 turn-returns-2 : (t : ℕ) → turn-lts.Need-returns-2 (turn-calls t) (turn-at t) turn.Post
-turn-returns-2 t c = c .leaf .ensures
+turn-returns-2 t c = c .asked-turn .ensures
 
-turn-returns-3 : (t : ℕ) → turn-lts.Need-returns-3 (turn-calls t) (turn-at t) turn.Post
-unfolding kindOf shaped
-turn-returns-3 t c =
-    let e = c .before .before .before .before .before .before .before .before .before .before in
-    trivial-turn (e .pre .1) _ (is-asked (e .pre .1) _ (c .before .before .before .before .before .before .before .is-asked .ensures) (not-false _ (c .before .before .before .before .before .before .if1 .left))) (c .over .ensures .0) (tree-read (e .pre .1 .passed) _ (e .pre .1 .inside) (c .before .before .before .before .before .node-place .ensures) _ (c .before .before .before .before .node-kind .ensures) (c .before .before .enum-told2 .given .1)) (c .over .ensures .1)
-
-turn-returns-4 : (t : ℕ) → turn-lts.Need-returns-4 (turn-calls t) (turn-at t) turn.Post
-unfolding kindOf shaped
-turn-returns-4 t c =
-    let e = c .before .before .before .before .before .before .before .before .before .before in
-    unsatisfiable-turn (e .pre .1) _ (is-asked (e .pre .1) _ (c .before .before .before .before .before .before .before .is-asked .ensures) (not-false _ (c .before .before .before .before .before .before .if1 .left))) (c .over2 .ensures .0) (tree-read (e .pre .1 .passed) _ (e .pre .1 .inside) (c .before .before .before .before .before .node-place .ensures) _ (c .before .before .before .before .node-kind .ensures) (c .before .before .enum-told3 .given .1)) (c .over2 .ensures .1)
-
-turn-returns-5 : (t : ℕ) → turn-lts.Need-returns-5 (turn-calls t) (turn-at t) turn.Post
-turn-returns-5 t c = c .parallel .ensures
-
-turn-returns-6 : (t : ℕ) → turn-lts.Need-returns-6 (turn-calls t) (turn-at t) turn.Post
-turn-returns-6 t c = c .sequential .ensures
-
-turn-returns-7 : (t : ℕ) → turn-lts.Need-returns-7 (turn-calls t) (turn-at t) turn.Post
-unfolding kindOf shaped
-turn-returns-7 t c =
-    let e = c .before .before .before .before .before .before .before .before .before .before in
-    trivial-turn (e .pre .1) _ (is-asked (e .pre .1) _ (c .before .before .before .before .before .before .before .is-asked .ensures) (not-false _ (c .before .before .before .before .before .before .if1 .left))) (c .over3 .ensures .0) (tree-read (e .pre .1 .passed) _ (e .pre .1 .inside) (c .before .before .before .before .before .node-place .ensures) _ (c .before .before .before .before .node-kind .ensures) (c .before .before .enum-told6 .given .1)) (c .over3 .ensures .1)
-
-pub +after-left+emit+leaf+parallel+right-first+rise+sequential+settle-insert+sink+turn-spec :
+pub +after-left+asked-turn+emit+leaf+parallel+right-first+rise+sequential+settle-insert+sink+turn-spec :
     {M : Type 1} → statement M
-+after-left+emit+leaf+parallel+right-first+rise+sequential+settle-insert+sink+turn-spec =
++after-left+asked-turn+emit+leaf+parallel+right-first+rise+sequential+settle-insert+sink+turn-spec =
     close
     μ-after-left
+    μ-asked-turn
     μ-emit
     μ-leaf
     μ-parallel
@@ -741,12 +765,13 @@ pub +after-left+emit+leaf+parallel+right-first+rise+sequential+settle-insert+sin
     μ-sink
     μ-turn
     (λ t. after-left-lts.spec (after-left-calls t) (after-left-at t) after-left.Post (after-left-joined-at-requires t) (λ c κs. search needs) (after-left-goes-on-requires t) (after-left-seq-end-requires t) (after-left-returns t) (after-left-right-of-requires t) (after-left-turn-requires t) (after-left-returns-2 t) (after-left-seq-end-requires-2 t) (after-left-returns-3 t))
+    (λ t. asked-turn-lts.spec (asked-turn-calls t) (asked-turn-at t) asked-turn.Post (asked-turn-node-place-requires t) (asked-turn-node-kind-requires t) (λ c. search needs) (asked-turn-leaf-requires t) (λ c. search needs) (asked-turn-over-requires t) (λ c. search needs) (asked-turn-over-requires-2 t) (λ c. search needs) (λ c. search needs) (asked-turn-parallel-requires t) (λ c. search needs) (asked-turn-sequential-requires t) (λ c. search needs) (asked-turn-over-requires-3 t) (asked-turn-returns t) (asked-turn-returns-2 t) (asked-turn-returns-3 t) (asked-turn-returns-4 t) (asked-turn-returns-5 t) (asked-turn-returns-6 t))
     (λ t. emit-lts.spec (emit-calls t) (emit-at t) emit.Post (emit-rise-requires t) (emit-returns t) (emit-sink-requires t) (emit-returns-2 t))
     (λ t. leaf-lts.spec (leaf-calls t) (leaf-at t) leaf.Post leaf-Inv-loop leaf-μ-loop (leaf-begin-leaf-requires t) (leaf-loop-holds t) (leaf-run-leaf-requires t) (λ c. search needs) (leaf-emit-requires t) (leaf-returns t) (leaf-loop-less t) (leaf-loop-again t) (λ c. search needs) (λ c. search needs) (leaf-returns-2 t))
     (λ t. parallel-lts.spec (parallel-calls t) (parallel-at t) parallel.Post (parallel-left-of-requires t) (parallel-turn-requires t) (parallel-returns t) (parallel-right-of-requires t) (parallel-turn-requires-2 t) (parallel-returns-2 t) (parallel-par-end-requires t) (parallel-returns-3 t))
     (λ t. right-first-lts.spec (right-first-calls t) (right-first-at t) right-first.Post (right-first-right-of-requires t) (right-first-turn-requires t) (right-first-returns t) (right-first-joined-at-requires t) (λ c κs. search needs) (right-first-seq-end-requires t) (right-first-returns-2 t) (right-first-left-of-requires t) (right-first-turn-requires-2 t) (right-first-caught-requires t) (right-first-returns-3 t) (right-first-seq-end-requires-2 t) (right-first-returns-4 t))
-    (λ t. rise-lts.spec (rise-calls t) (rise-at t) rise.Post rise-Inv-loop rise-μ-loop (rise-loop-holds t) (rise-taker-requires t) (rise-say-requires t) (rise-returns t) (rise-right-of-requires t) (rise-turn-requires t) (rise-returns-2 t) (rise-cast-single t) (λ c κs. search needs) (λ c κs. search needs) (rise-lets-on-requires t) (rise-returns-3 t) (rise-loop-less t) (rise-loop-again t))
+    (λ t. rise-lts.spec (rise-calls t) (rise-at t) rise.Post rise-Inv-loop rise-μ-loop (rise-loop-holds t) (rise-taker-requires t) (rise-say-requires t) (rise-returns t) (rise-right-of-requires t) (rise-asked-turn-requires t) (rise-returns-2 t) (rise-cast-single t) (λ c κs. search needs) (λ c κs. search needs) (rise-lets-on-requires t) (rise-returns-3 t) (rise-loop-less t) (rise-loop-again t))
     (λ t. sequential-lts.spec (sequential-calls t) (sequential-at t) sequential.Post (sequential-right-first-requires t) (sequential-returns t) (sequential-left-of-requires t) (sequential-turn-requires t) (sequential-caught-requires t) (sequential-returns-2 t) (sequential-after-left-requires t) (sequential-returns-3 t))
     (λ t. settle-insert-lts.spec (settle-insert-calls t) (settle-insert-at t) settle-insert.Post (settle-insert-right-of-requires t) (settle-insert-turn-requires t) (settle-insert-returns t) (settle-insert-reread-requires t) (settle-insert-returns-2 t))
     (λ t. sink-lts.spec (sink-calls t) (sink-at t) sink.Post sink-Inv-loop sink-μ-loop (sink-loop-holds t) (sink-cast-has t) (λ c κs. search needs) (sink-settle-insert-requires t) (sink-returns t) (sink-add-at t) (sink-loop-less t) (sink-loop-again t) (sink-returns-2 t))
-    λ t. turn-lts.spec (turn-calls t) (turn-at t) turn.Post (turn-is-asked-requires t) (turn-returns t) (turn-node-place-requires t) (turn-node-kind-requires t) (λ c. search needs) (turn-leaf-requires t) (λ c. search needs) (turn-over-requires t) (λ c. search needs) (turn-over-requires-2 t) (λ c. search needs) (λ c. search needs) (turn-parallel-requires t) (λ c. search needs) (turn-sequential-requires t) (λ c. search needs) (turn-over-requires-3 t) (turn-returns-2 t) (turn-returns-3 t) (turn-returns-4 t) (turn-returns-5 t) (turn-returns-6 t) (turn-returns-7 t)
+    λ t. turn-lts.spec (turn-calls t) (turn-at t) turn.Post (turn-is-asked-requires t) (turn-returns t) (turn-asked-turn-requires t) (turn-returns-2 t)
