@@ -85,12 +85,12 @@ fits-by ks js o s e =
 -- ---- a next
 
 -- it counts as reached idle, so it is to be marked in no other mode
-pub next-fits : (s : Step) (o i p c : ℕ) (ks : List Mark) → isNext s ≡ true → MarkedHere i p c o ks → (eqb p 0 && eqb c 0) ≡ modeFits ks o s
+pub next-fits : (s : Step) (o : ℕ) (i p c : Bool) (ks : List Mark) → isNext s ≡ true → MarkedHere i p c o ks → (not p && not c) ≡ modeFits ks o s
 unfolding modeFits reachedBy isNext isIdle isPending isClosing stands one
 next-fits (next t d) o i p c ks n h =
-    (λ j. eqb (h .pendingly j) 0 && eqb (h .closingly j) 0) ∙ go (marked idle o ks) (marked pending o ks) (marked closing o ks) refl refl refl
+    (λ j. not (h .pendingly j) && not (h .closingly j)) ∙ go (marked idle o ks) (marked pending o ks) (marked closing o ks) refl refl refl
   where
-    go : (x y z : Bool) → marked idle o ks ≡ x → marked pending o ks ≡ y → marked closing o ks ≡ z → (eqb (one (marked pending o ks)) 0 && eqb (one (marked closing o ks)) 0) ≡ modeFits ks o (next t d)
+    go : (x y z : Bool) → marked idle o ks ≡ x → marked pending o ks ≡ y → marked closing o ks ≡ z → (not (marked pending o ks) && not (marked closing o ks)) ≡ modeFits ks o (next t d)
     go true true true e f g = rw (e, f, g) refl
     go true true false e f g = rw (e, f, g) refl
     go true false true e f g = rw (e, f, g) refl

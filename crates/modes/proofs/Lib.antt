@@ -1,4 +1,4 @@
-pub mod Marks
+pub mod Words
 mod Table
 mod ModeSteps
 pub mod Final

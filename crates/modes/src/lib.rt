@@ -1,18 +1,19 @@
 // Rule 7, the mode rule: one walk through a leaf's steps marks the modes in which each is reached and holds each to the table. A step may
 // lead back to a next alone, so only the nexts are looked at again.
 ghost use mathlib.Core.Path.{_≡_};
-ghost use mathlib.Core.Bool.{_||_, not};
+ghost use mathlib.Core.Bool.{_&&_, _||_, not};
 ghost use mathlib.Core.List.{List, _++_};
-ghost use Prim.Native.Nat.{_+_, _*_, _≤_, _<_};
+ghost use Prim.Native.Nat.{ℕ, _+_, _*_, _≤_, _<_};
 ghost use lib.Dec.{T, eqb, ltb};
-ghost use lib.ListN.{length, set};
+ghost use lib.ListN.{length};
+ghost use Rattle.actions.specs.Sets.{has};
 ghost use Rattle.policy.specs.Lists.{every};
 ghost use Rattle.policy.specs.Records.{rowAt};
 ghost use Rattle.policy.specs.Steps.{stepOf, targets, isNext};
 ghost use Rattle.rules.specs.Modes.{Mark, marks, modeFits};
 ghost use Rattle.reading.specs.Code.{codeAt};
 ghost use Rattle.modes.specs.Table.{entryAt, reaching, mayStand, ledBy};
-ghost use Rattle.modes.specs.Marks.{markBytes, Agrees, Kept, Adds, roomFor, onlyIf, MarkedHere, fitsIn, Led, nextsFit};
+ghost use Rattle.modes.specs.Marks.{Agrees, Adds, roomFor, onlyIf, MarkedHere, fitsIn, StepLed, nextsFit};
 use reading::byte;
 
 // The mode rule, a row for each kind of step and a column for each mode: 0 idle, 1 pending, 2 closing. An entry has three digits:
@@ -37,54 +38,95 @@ fn entry(kind: usize, mode: usize) -> u8
     TABLE[kind][mode]
 }
 
-// ---- the marks: a byte for each of 64 offsets in each mode, 1 where the offset is marked and else 0
+// ---- the marks
 
-// The marks of one offset.
-struct Here {
-    idle: u8,
-    pending: u8,
-    closing: u8,
+// A word for each mode: bit o is 1 where offset o is reached in that mode. They go by value, so that a compiler may keep them in registers.
+pub struct Marks {
+    pub idle: u64,
+    pub pending: u64,
+    pub closing: u64,
 }
 
-fn marks_at(seen: &[u8], o: usize) -> Here
-    requires { ⌜ (length (now seen) ≡ markBytes) × (o < 64) ⌝ }
-    ensures { λ r. ⌜ ((ks : List Mark) → Agrees (now (seen .entry)) ks → MarkedHere (r .idle) (r .pending) (r .closing) o ks) ⌝ }
+// Offset 0 is reached idle, before any step is walked.
+pub fn first_mark() -> Marks
+    ensures { λ r. ⌜ Agrees r (reaching 0 0) ⌝ }
 {
-    Here {
-        idle: seen[o],
-        pending: seen[64 + o],
-        closing: seen[128 + o],
+    Marks {
+        idle: 1,
+        pending: 0,
+        closing: 0,
     }
 }
 
-pub fn mark(seen: &mut [u8], mode: usize, o: usize)
-    requires { ⌜ (length (now seen) ≡ markBytes) × (mode < 3) × (o < 64) ⌝ }
-    ensures { λ _. ⌜ now (seen .exit) ≡ set (now (seen .entry)) (64 * mode + o) 1 ⌝ }
-    ensures { λ _. ⌜ Adds (now (seen .entry)) (now (seen .exit)) (reaching mode o) ⌝ }
+// No test of the offset is compiled in, here and in `only_bit`: who calls them knows it to be below 64.
+fn has_bit(word: u64, o: usize) -> bool
+    requires { ⌜ o < 64 ⌝ }
+    ensures { λ r. ⌜ r ≡ has word o ⌝ }
 {
-    seen[64 * mode + o] = 1;
+    (word >> o) % 2 == 1
 }
 
-// Marks a target of a step if `here` is 1; in mode 3 the step does not have it. A byte that is stored either way costs no branch.
-fn reach(seen: &mut [u8], mode: usize, o: usize, here: u8)
-    requires { ⌜ (length (now seen) ≡ markBytes) × T (roomFor (reaching mode o)) × (here ≤ 1) ⌝ }
-    ensures { λ _. ⌜ Adds (now (seen .entry)) (now (seen .exit)) (onlyIf (eqb here 1) (reaching mode o)) ⌝ }
+// The word of the offset o, or of none. A word that is picked costs no branch, and in the three modes it is shifted once.
+fn only_bit(o: usize, here: bool) -> u64
+    requires { ⌜ o < 64 ⌝ }
+    ensures { λ r. ⌜ ((p : ℕ) → has r p ≡ (here && eqb p o)) ⌝ }
 {
-    if mode < 3 {
-        let at = 64 * mode + o;
-        seen[at] = seen[at] | here;
+    if here { 1u64 << o } else { 0 }
+}
+
+// The modes in which one offset is marked.
+struct Here {
+    idle: bool,
+    pending: bool,
+    closing: bool,
+}
+
+fn marks_at(seen: Marks, o: usize) -> Here
+    requires { ⌜ o < 64 ⌝ }
+    ensures { λ r. ⌜ ((ks : List Mark) → Agrees seen ks → MarkedHere (r .idle) (r .pending) (r .closing) o ks) ⌝ }
+{
+    Here {
+        idle: has_bit(seen.idle, o),
+        pending: has_bit(seen.pending, o),
+        closing: has_bit(seen.closing, o),
+    }
+}
+
+// Marks a target of a step if `here`; in mode 3 the step does not have it. The mode comes from the table by a constant number, so that a
+// compiler knows the arm.
+fn reach(seen: Marks, mode: u8, o: usize, here: bool) -> Marks
+    requires { ⌜ T (roomFor (reaching mode o)) ⌝ }
+    ensures { λ r. ⌜ Adds seen r (onlyIf here (reaching mode o)) ⌝ }
+{
+    match mode {
+        0 => Marks {
+            idle: seen.idle | only_bit(o, here),
+            pending: seen.pending,
+            closing: seen.closing,
+        },
+        1 => Marks {
+            idle: seen.idle,
+            pending: seen.pending | only_bit(o, here),
+            closing: seen.closing,
+        },
+        2 => Marks {
+            idle: seen.idle,
+            pending: seen.pending,
+            closing: seen.closing | only_bit(o, here),
+        },
+        _ => seen,
     }
 }
 
 // ---- a step
 
 // Marks what a step leads to in a mode whose entry is e, if it is reached in that mode.
-fn lead_in(e: u8, here: u8, first: usize, second: usize, seen: &mut [u8])
-    requires { ⌜ (length (now seen) ≡ markBytes) × T (roomFor (ledBy e first second)) × (here ≤ 1) ⌝ }
-    ensures { λ _. ⌜ Adds (now (seen .entry)) (now (seen .exit)) (onlyIf (eqb here 1) (ledBy e first second)) ⌝ }
+fn lead_in(e: u8, here: bool, first: usize, second: usize, seen: Marks) -> Marks
+    requires { ⌜ T (roomFor (ledBy e first second)) ⌝ }
+    ensures { λ r. ⌜ Adds seen r (onlyIf here (ledBy e first second)) ⌝ }
 {
-    reach(seen, (e % 4) as usize, second, here);
-    reach(seen, (e / 4 % 4) as usize, first, here);
+    let after = reach(seen, e % 4, second, here);
+    reach(after, e / 4 % 4, first, here)
 }
 
 fn stands(e: u8) -> bool
@@ -100,35 +142,40 @@ struct Met {
     second: usize,
 }
 
-// The entries are those of the step's kind in each mode. Gives whether it is reached in one mode, and may stand there.
-fn lead_by(idle: u8, pending: u8, closing: u8, met: Met, seen: &mut [u8]) -> bool
-    requires { ⌜ (length (now seen) ≡ markBytes) × (met .here .idle ≤ 1) × (met .here .pending ≤ 1) × (met .here .closing ≤ 1) ⌝ }
+// What the walk has of a step: the marks after it, and whether it fits.
+pub struct Led {
+    pub marks: Marks,
+    pub fits: bool,
+}
+
+// The entries are those of the step's kind in each mode. It fits if it is reached in one mode, and may stand there.
+fn lead_by(idle: u8, pending: u8, closing: u8, met: Met, seen: Marks) -> Led
     requires { ⌜ T (roomFor (ledBy idle (met .first) (met .second))) × T (roomFor (ledBy pending (met .first) (met .second)))
         × T (roomFor (ledBy closing (met .first) (met .second))) ⌝ }
-    ensures { λ r. ⌜ r ≡ fitsIn idle pending closing (met .here .idle) (met .here .pending) (met .here .closing) ⌝ }
-    ensures { λ r. ⌜ Adds (now (seen .entry)) (now (seen .exit)) (onlyIf (eqb (met .here .idle) 1) (ledBy idle (met .first) (met .second))
-        ++ (onlyIf (eqb (met .here .pending) 1) (ledBy pending (met .first) (met .second))
-        ++ onlyIf (eqb (met .here .closing) 1) (ledBy closing (met .first) (met .second)))) ⌝ }
+    ensures { λ r. ⌜ r .fits ≡ fitsIn idle pending closing (met .here .idle) (met .here .pending) (met .here .closing) ⌝ }
+    ensures { λ r. ⌜ Adds seen (r .marks) (onlyIf (met .here .idle) (ledBy idle (met .first) (met .second))
+        ++ (onlyIf (met .here .pending) (ledBy pending (met .first) (met .second))
+        ++ onlyIf (met .here .closing) (ledBy closing (met .first) (met .second)))) ⌝ }
 {
     let here = met.here;
-    lead_in(closing, here.closing, met.first, met.second, seen);
-    lead_in(pending, here.pending, met.first, met.second, seen);
-    lead_in(idle, here.idle, met.first, met.second, seen);
-    let modes = here.idle + here.pending + here.closing;
-    (modes == 1)
-        & ((here.idle == 0) | stands(idle))
-        & ((here.pending == 0) | stands(pending))
-        & ((here.closing == 0) | stands(closing))
+    let closed = lead_in(closing, here.closing, met.first, met.second, seen);
+    let pended = lead_in(pending, here.pending, met.first, met.second, closed);
+    let marks = lead_in(idle, here.idle, met.first, met.second, pended);
+    let modes = here.idle as u8 + here.pending as u8 + here.closing as u8;
+    let fits = (modes == 1)
+        & (!here.idle | stands(idle))
+        & (!here.pending | stands(pending))
+        & (!here.closing | stands(closing));
+    Led { marks, fits }
 }
 
 // Marks what the step leads to, and holds it to the table by the marks before it. Every next counts as reached idle, and is not held to
 // anything here. An end's row is a halt's, and a record of no kind, which rule 4 refuses, is read as a halt: these share an arm. The
 // entries are asked for by their numbers, so that a compiler knows what they say.
-pub fn lead(policy: &[u8], at: usize, o: usize, seen: &mut [u8]) -> bool
-    requires { ⌜ (at + 12 ≤ length (now policy)) × (o < 64) × Kept (now seen) ⌝ }
+pub fn lead(policy: &[u8], at: usize, o: usize, seen: Marks) -> Led
+    requires { ⌜ (at + 12 ≤ length (now policy)) × (o < 64) ⌝ }
     requires { ⌜ T (every (λ t. ltb t 64) (targets (stepOf (rowAt (now policy) at)))) ⌝ }
-    ensures { λ r. ⌜ ((ks : List Mark) → Agrees (now (seen .entry)) ks
-        → Led o (stepOf (rowAt (now (policy .entry)) at)) ks r (now (seen .exit))) ⌝ }
+    ensures { λ r. ⌜ ((ks : List Mark) → Agrees seen ks → StepLed o (stepOf (rowAt (now (policy .entry)) at)) ks r) ⌝ }
 {
     let kind = byte(policy, at);
     let first = byte(policy, at + 2) as usize;
@@ -142,7 +189,7 @@ pub fn lead(policy: &[u8], at: usize, o: usize, seen: &mut [u8]) -> bool
     match kind {
         1 => {
             let here = Here {
-                idle: 1,
+                idle: true,
                 pending: here.pending,
                 closing: here.closing,
             };
@@ -151,8 +198,9 @@ pub fn lead(policy: &[u8], at: usize, o: usize, seen: &mut [u8]) -> bool
                 first,
                 second,
             };
-            lead_by(entry(1, 0), entry(1, 1), entry(1, 2), next, seen);
-            true
+            let led = lead_by(entry(1, 0), entry(1, 1), entry(1, 2), next, seen);
+            let marks = led.marks;
+            Led { marks, fits: true }
         }
         2 => lead_by(entry(2, 0), entry(2, 1), entry(2, 2), met, seen),
         3 => lead_by(entry(3, 0), entry(3, 1), entry(3, 2), met, seen),
@@ -166,22 +214,22 @@ pub fn lead(policy: &[u8], at: usize, o: usize, seen: &mut [u8]) -> bool
 // ---- the nexts
 
 // A next is reached in no other mode than idle.
-fn next_fits(policy: &[u8], at: usize, o: usize, seen: &[u8]) -> bool
-    requires { ⌜ (at < length (now policy)) × (o < 64) × (length (now seen) ≡ markBytes) ⌝ }
-    ensures { λ r. ⌜ ((ks : List Mark) → Agrees (now (seen .entry)) ks
+fn next_fits(policy: &[u8], at: usize, o: usize, seen: Marks) -> bool
+    requires { ⌜ (at < length (now policy)) × (o < 64) ⌝ }
+    ensures { λ r. ⌜ ((ks : List Mark) → Agrees seen ks
         → r ≡ (not (isNext (stepOf (rowAt (now (policy .entry)) at))) || modeFits ks o (stepOf (rowAt (now (policy .entry)) at)))) ⌝ }
 {
     if byte(policy, at) != 1 {
         return true;
     }
     let here = marks_at(seen, o);
-    (here.pending == 0) & (here.closing == 0)
+    !here.pending & !here.closing
 }
 
 // By all marks of the leaf.
-pub fn nexts_fit(policy: &[u8], at: usize, count: usize, seen: &[u8]) -> bool
+pub fn nexts_fit(policy: &[u8], at: usize, count: usize, seen: Marks) -> bool
     requires { ⌜ (at + 12 * count ≤ length (now policy)) × (count ≤ 64) ⌝ }
-    requires { ⌜ Agrees (now seen) (marks (codeAt (now policy) at count)) ⌝ }
+    requires { ⌜ Agrees seen (marks (codeAt (now policy) at count)) ⌝ }
     ensures { λ r. ⌜ r ≡ nextsFit (codeAt (now (policy .entry)) at count) ⌝ }
 {
     let mut o = 0;

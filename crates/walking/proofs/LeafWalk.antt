@@ -28,7 +28,10 @@ use Rattle.rules.specs.Spread.{insCount}
 use Rattle.rules.proofs.Ahead.{in-or-out, Suffix}
 use Rattle.targets.proofs.TargetLaws.{fitFrom, fit-whole, fit-rest, fit-over, test-inside}
 use Rattle.modes.specs.Table.{reaching}
-use Rattle.modes.specs.Marks.{Agrees, Led, othersFit}
+use Rattle.modes.specs.declared.Marks.{Marks}
+use Rattle.modes.specs.declared.Led.{Led}
+use Rattle.modes.specs.Marks.{Agrees, StepLed, othersFit}
+use Rattle.modes.proofs.Words.{byte-one, byte-small}
 use Rattle.modes.proofs.Final.{walked-elsewhere, fits-by}
 use Rattle.possible.proofs.PossibleLaws.{pass-take, passed-elsewhere, branches-alone, effects-by}
 use Rattle.actions.proofs.SetLaws.{union-assoc, union-none, union-end}
@@ -37,11 +40,6 @@ use Rattle.actions.proofs.SetLaws.{union-assoc, union-none, union-end}
 unless-next : (n x y : Bool) → (n ≡ false → x ≡ y) → (n || x) ≡ (n || y)
 unless-next true x y e = refl
 unless-next false x y e = e refl
-
-byte-one : (b : Bool) → boolByte b ≡ one b
-unfolding one
-byte-one true = refl
-byte-one false = refl
 
 -- only kind 4 is an ins
 kind-ins : (kind action first second operand : ℕ)
@@ -61,10 +59,6 @@ kind-ins (suc (suc (suc (suc (suc (suc (suc (suc (suc k))))))))) a f s o = sym (
 pub ins-kind : (file : Bytes) (at : ℕ) → isIns (stepOf (rowAt file at)) ≡ eqb (number file at 1) 4
 unfolding rowAt
 ins-kind file at = kind-ins (number file at 1) (number file (at + 1) 1) (number file (at + 2) 1) (number file (at + 3) 1) (number file (at + 4) 8)
-
-pub byte-small : (b : Bool) → boolByte b ≤ 1
-byte-small true = omega arith
-byte-small false = omega arith
 
 -- targets below n are below m
 pub inside-more : (n m : ℕ) (ts : List ℕ) → n ≤ m → T (every (λ (u : ℕ). ltb u n) ts) → T (every (λ (u : ℕ). ltb u m) ts)
@@ -123,7 +117,7 @@ module _ (file : Bytes) (at count : ℕ) where
     effectsFrom o = codeEffects (possible r code) o (rest o)
 
     -- what is found when the walk stands at o
-    pub record Walking (o : ℕ) (seen : Bytes) (sets : List ActionSet) (modes taken : Bool) (effects inserts : ℕ) : Type 0 where
+    pub record Walking (o : ℕ) (seen : Marks) (sets : List ActionSet) (modes taken : Bool) (effects inserts : ℕ) : Type 0 where
       pub below : o ≤ count
       pub fit : targetsFit r code ≡ fitFrom r file at count o
       pub ks : List Mark
@@ -137,7 +131,7 @@ module _ (file : Bytes) (at count : ℕ) where
       pub few : inserts ≤ o
       pub ins : insCount code ≡ inserts + insCount (rest o)
 
-    pub walk-starts : (seen : Bytes) (sets : List ActionSet) → Agrees seen (reaching 0 0) → length sets ≡ 64 → take count sets ≡ replicate count EMPTY
+    pub walk-starts : (seen : Marks) (sets : List ActionSet) → Agrees seen (reaching 0 0) → length sets ≡ 64 → take count sets ≡ replicate count EMPTY
         → Walking 0 seen sets true true EMPTY 0
     unfolding marks possible reaching othersFit allTaken leafEffects
     walk-starts seen sets g l e = record {
@@ -156,7 +150,7 @@ module _ (file : Bytes) (at count : ℕ) where
       ins = ap insCount code-rest ∙ omega arith;
     }
 
-    module _ (o : ℕ) (seen : Bytes) (sets : List ActionSet) (modes taken : Bool) (effects inserts : ℕ)
+    module _ (o : ℕ) (seen : Marks) (sets : List ActionSet) (modes taken : Bool) (effects inserts : ℕ)
         (w : Walking o seen sets modes taken effects inserts) (h : o < count) where
       -- at a step that is no next, the marks and the set are as they will be
       not-next : isNext (stepIn o) ≡ false → isNext (getD code o halt) ≡ false
@@ -176,9 +170,9 @@ module _ (file : Bytes) (at count : ℕ) where
       rest-is = listed-rest stepIn o count h
 
       -- what was asked of the step at o, with the set p at it
-      module _ (p : ActionSet) (ep : p ≡ getD sets o EMPTY) (fits taken′ ins′ : Bool) (e effects′ : ActionSet) (seen′ : Bytes) (sets′ : List ActionSet)
+      module _ (p : ActionSet) (ep : p ≡ getD sets o EMPTY) (taken′ ins′ : Bool) (e effects′ : ActionSet) (r′ : Led) (sets′ : List ActionSet)
           (tested : (asksWithin r (stepIn o) && every (targetFits code o) (targets (stepIn o))) ≡ true)
-          (led : Led o (stepIn o) (w .ks) fits seen′)
+          (led : StepLed o (stepIn o) (w .ks) r′)
           (branched : taken′ ≡ branchesTaken (p ∷ []) 0 (stepIn o))
           (affected : e ≡ stepEffects p (stepIn o))
           (joined : effects′ ≡ union effects e)
@@ -207,13 +201,13 @@ module _ (file : Bytes) (at count : ℕ) where
             w .pass ∙ ap (λ (l : List Step). passedOn r o l (take count sets)) rest-is
             ∙ ap₂ (λ (n : ℕ) (ps : List ActionSet). passedOn r n (rest (o + 1)) ps) z now
 
-        others-on : T (targetsFit r code) → othersFit code ≡ ((modes && fits) && othersFrom (o + 1))
+        others-on : T (targetsFit r code) → othersFit code ≡ ((modes && r′ .fits) && othersFrom (o + 1))
         others-on six =
-            let here : (isNext (stepIn o) || modeFits (marks code) o (stepIn o)) ≡ fits =
+            let here : (isNext (stepIn o) || modeFits (marks code) o (stepIn o)) ≡ r′ .fits =
             unless-next (isNext (stepIn o)) _ _ (λ n. fits-by (marks code) (w .ks) o (stepIn o) (final-marks six n)) ∙ sym (led .test) in
             w .others six
             ∙ ap (λ (b : Bool). modes && b) (everyAt-rest (λ p s. isNext s || modeFits (marks code) p s) stepIn o count h ∙ ap (λ (b : Bool). b && othersFrom (o + 1)) here)
-            ∙ and-assoc modes fits (othersFrom (o + 1))
+            ∙ and-assoc modes (r′ .fits) (othersFrom (o + 1))
 
         branches-on : T (targetsFit r code) → allTaken r code ≡ ((taken && taken′) && takenFrom (o + 1))
         branches-on six =
@@ -237,7 +231,7 @@ module _ (file : Bytes) (at count : ℕ) where
         unfolding insCount
         ins-on = ap insCount rest-is ∙ ap (λ (n : ℕ). n + insCount (rest (o + 1))) (ap one (sym counted) ∙ sym (byte-one ins′))
 
-        pub walk-goes : Walking (o + 1) seen′ sets′ (modes && fits) (taken && taken′) effects′ (inserts + boolByte ins′)
+        pub walk-goes : Walking (o + 1) (r′ .marks) sets′ (modes && r′ .fits) (taken && taken′) effects′ (inserts + boolByte ins′)
         walk-goes = record {
           below = omega arith;
           fit = fit-on;
@@ -255,7 +249,7 @@ module _ (file : Bytes) (at count : ℕ) where
 
     -- ---- the end
 
-    module _ (o : ℕ) (seen : Bytes) (sets : List ActionSet) (modes taken : Bool) (effects inserts : ℕ)
+    module _ (o : ℕ) (seen : Marks) (sets : List ActionSet) (modes taken : Bool) (effects inserts : ℕ)
         (w : Walking o seen sets modes taken effects inserts) (h : count ≤ o) where
       none-left : rest o ≡ []
       none-left = listed-over stepIn o count h
@@ -285,7 +279,7 @@ module _ (file : Bytes) (at count : ℕ) where
       all-inserts = sym (w .ins ∙ ap (λ (l : List Step). inserts + insCount l) none-left ∙ omega arith)
 
     -- a step whose targets do not fit
-    pub walk-stops : (o : ℕ) (seen : Bytes) (sets : List ActionSet) (modes taken : Bool) (effects inserts : ℕ)
+    pub walk-stops : (o : ℕ) (seen : Marks) (sets : List ActionSet) (modes taken : Bool) (effects inserts : ℕ)
         → Walking o seen sets modes taken effects inserts → o < count → (b : Bool)
         → b ≡ (asksWithin r (stepIn o) && every (targetFits code o) (targets (stepIn o))) → b ≡ false → b ≡ targetsFit r code
     walk-stops o seen sets modes taken effects inserts w h b e f =

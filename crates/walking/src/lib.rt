@@ -7,8 +7,8 @@ ghost use Rattle.policy.specs.Steps.{stepOf, isIns};
 ghost use Rattle.reading.specs.Code.{codeAt};
 ghost use Rattle.walking.specs.Leaf.{LeafFound};
 use actions::ActionSet;
+use modes::first_mark;
 use modes::lead;
-use modes::mark;
 use modes::nexts_fit;
 use possible::branches_taken;
 use possible::pass_on;
@@ -38,8 +38,7 @@ pub fn walk(policy: &[u8], at: usize, count: usize, set: ActionSet) -> Walked
     requires { ⌜ (at + 12 * count ≤ length (now policy)) × (count ≤ 64) ⌝ }
     ensures { λ r. ⌜ LeafFound r (set .bits) (codeAt (now (policy .entry)) at count) ⌝ }
 {
-    let mut seen = [0; 192];
-    mark(&mut seen, 0, 0);
+    let mut seen = first_mark();
     let mut sets = [0u64; 64];
     let mut modes = true;
     let mut taken = true;
@@ -57,7 +56,9 @@ pub fn walk(policy: &[u8], at: usize, count: usize, set: ActionSet) -> Walked
                 inserts: 0,
             };
         }
-        modes = modes & lead(policy, row, o, &mut seen);
+        let led = lead(policy, row, o, seen);
+        seen = led.marks;
+        modes = modes & led.fits;
         let p = ActionSet { bits: sets[o] };
         taken = taken & branches_taken(policy, row, p);
         effects = effects.union(step_effects(policy, row, p));
@@ -65,10 +66,9 @@ pub fn walk(policy: &[u8], at: usize, count: usize, set: ActionSet) -> Walked
         pass_on(policy, row, p, set, &mut sets);
         o += 1;
     }
-    modes = modes & nexts_fit(policy, at, count, &seen);
     Walked {
         targets: true,
-        modes,
+        modes: modes & nexts_fit(policy, at, count, seen),
         taken,
         effects,
         inserts,

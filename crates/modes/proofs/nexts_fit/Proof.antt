@@ -26,13 +26,13 @@ add-next-fits : tie.Need-add-next-fits Inv-loop μ-loop
 add-next-fits c = omega arith
 
 next-fits-requires : tie.Need-next-fits-requires Inv-loop μ-loop
-next-fits-requires c κs = let s = c .before .before .before .before in (omega arith, omega arith, s .pre .1 .size)
+next-fits-requires c κs = (omega arith, omega arith)
 
 returns : tie.Need-returns Inv-loop μ-loop
 returns c =
     let w = c .before in
     rest-off _ _ _ _ _ (w .before .before .loop .inv .1) (nexts-rest _ _ _ _ (w .before .loop-test .taken))
-    (w .next-fits .ensures _ (w .before .before .before .before .before .pre .1)) (not-true _ (c .if1 .taken))
+    (w .next-fits .ensures _ (w .before .before .before .before .pre .1)) (not-true _ (c .if1 .taken))
 
 add-o : tie.Need-add-o Inv-loop μ-loop
 add-o c = omega arith
@@ -45,7 +45,7 @@ loop-again c =
     let w = c .before in (
       omega arith,
       rest-on _ _ _ _ _ (w .before .before .loop .inv .1) (nexts-rest _ _ _ _ (w .before .loop-test .taken))
-          (w .next-fits .ensures _ (w .before .before .before .before .before .pre .1)) (not-false _ (c .if1 .left)),
+          (w .next-fits .ensures _ (w .before .before .before .before .pre .1)) (not-false _ (c .if1 .left)),
     )
 
 returns-2 : tie.Need-returns-2 Inv-loop μ-loop

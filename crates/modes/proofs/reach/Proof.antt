@@ -1,39 +1,42 @@
--- `reach` meets its contract: a target that the step has is marked if the byte is 1, one that it does not have is not. Assumes nothing.
-use Prim.Native.Nat.{_<_}
+-- `reach` meets its contract: a target that the step has is joined to the word of its mode, one that it does not have is not. Assumes nothing.
+use Prim.Native.Nat.{ℕ, _<_}
 use native.Mathlib.Omega.{arith}
-use Rattle.modes.proofs.Marks.{join-adds}
+use mathlib.Core.Path.{_≡_}
+use lib.Dec.{lit<}
+use Rattle.actions.specs.Sets.{union}
+use Rattle.rules.specs.Modes.{idle, pending, closing}
+use Rattle.modes.specs.Table.{modeNumber}
+use Rattle.modes.proofs.Words.{joined, joined-adds}
 use Rattle.modes.proofs.ModeSteps.{room-one, adds-none}
-use borrow.Author.Needs.{needs}
 use Rattle.modes.proofs.reach.Statement.{statement}
 use Rattle.modes.proofs.reach.Tie as tie
 
-inside : (s : tie.Start) → s .args .mode < 3 → s .args .o < 64
-inside s h = room-one (s .args .mode) (s .args .o) h (s .pre .1)
-
-mul-at : tie.Need-mul-at
-mul-at c = search needs
-
-add-at : tie.Need-add-at
-add-at c = let o = inside (c .before) (c .if1 .taken) in omega arith
-
-slice-read-seen : tie.Need-slice-read-seen
-slice-read-seen c = let o = inside (c .before .before) (c .before .if1 .taken) in let l = c .before .before .pre .0 in let m = c .before .if1 .taken in omega arith
-
-slice-write-seen : tie.Need-slice-write-seen
-slice-write-seen c = let o = inside (c .before .before) (c .before .if1 .taken) in let l = c .before .before .pre .0 in let m = c .before .if1 .taken in omega arith
-
-same-length : tie.Need-same-length
-same-length c = search needs
+inside : (s : tie.Start) {k : ℕ} → s .args .mode ≡ k → k < 3 → s .args .o < 64
+inside s e h = room-one (s .args .mode) (s .args .o) (omega arith) (s .pre)
 
 returns : tie.Need-returns
-returns c =
-    let s = c .before .before in
-    join-adds _ _ _ _ (s .pre .0) (c .before .if1 .taken) (inside s (c .before .if1 .taken)) (s .pre .2)
+unfolding joined union modeNumber
+returns c = joined-adds _ idle _ _ _ _ (c .before .before .match .keys1) (c .before .only-bit .ensures)
 
 returns-2 : tie.Need-returns-2
-returns-2 c = adds-none _ _ _ _ (c .if1 .left)
+unfolding joined union modeNumber
+returns-2 c = joined-adds _ pending _ _ _ _ (c .before .before .match .keys2) (c .before .only-bit2 .ensures)
+
+returns-3 : tie.Need-returns-3
+unfolding joined union modeNumber
+returns-3 c = joined-adds _ closing _ _ _ _ (c .before .before .match .keys3) (c .before .only-bit3 .ensures)
+
+returns-4 : tie.Need-returns-4
+returns-4 c = adds-none _ _ _ _ (omega arith)
 
 pub reach-spec : {M : Type 1} → statement M
 reach-spec =
     tie.close
-    (tie.spec mul-at add-at slice-read-seen slice-write-seen same-length returns returns-2)
+    (tie.spec
+    (λ c κs. inside (c .before) (c .match .keys1) (lit< tt))
+    (λ c κs. inside (c .before) (c .match .keys2) (lit< tt))
+    (λ c κs. inside (c .before) (c .match .keys3) (lit< tt))
+    returns
+    returns-2
+    returns-3
+    returns-4)
