@@ -2,16 +2,16 @@
 use Prim.Native.Nat.{ℕ, _≤_}
 use native.Mathlib.Omega.{arith}
 use mathlib.Core.Path.{_≡_, refl, sym, _∙_, ap, ap₂, subst}
-use mathlib.Core.Bool.{Bool, true, false, not}
+use mathlib.Core.Bool.{Bool, true, false, _||_, not}
 use mathlib.Core.List.{List, map}
 use lib.Dec.{T, eqb, ltb, nltb→le}
 use lib.ListN.{length, getD}
 use Rattle.actions.proofs.Tests.{or-false-left}
 use Rattle.policy.specs.Bytes.{Bytes, number}
-use Rattle.policy.specs.Lists.{summed}
-use Rattle.policy.specs.Records.{nodeCount, stepCount, lengthField, nodes}
+use Rattle.policy.specs.Lists.{summed, every}
+use Rattle.policy.specs.Records.{nodeCount, stepCount, lengthField, nodes, rows}
 use Rattle.policy.specs.Tree.{owned, regulated}
-use Rattle.rules.specs.Layout.{broken1, broken2, broken3, broken4}
+use Rattle.rules.specs.Layout.{rowFits, broken1, broken2, broken3, broken4}
 use Rattle.rules.specs.Children.{broken5}
 use Rattle.rules.specs.Targets.{broken6}
 use Rattle.rules.specs.Modes.{broken7}
@@ -21,6 +21,7 @@ use Rattle.rules.specs.Spread.{broken10}
 use Rattle.rules.specs.Check.{passes, refused, rules, check}
 use Rattle.rules.proofs.Passed.{here, after, lowest-refused, passes-all}
 use Rattle.records.specs.Frame.{Framed}
+use Rattle.records.specs.Fits.{nodesFit, ruleOr4}
 use Rattle.records.proofs.Frame.{framed}
 use Rattle.checking.specs.Kept.{FrontKept, LeavesKept}
 use Rattle.surveying.specs.Leaves.{lowest, LeavesFound}
@@ -29,10 +30,6 @@ use Rattle.sets.specs.Sets.{Treed, RegulatedFrom, EffectsFrom}
 use Rattle.sets.proofs.TreeSets.{top-is}
 
 module _ (file : Bytes) where
-  -- a test's outcome, from the function that made it
-  pub found : {b r : Bool} (p : Bool) → r ≡ p → r ≡ b → p ≡ b
-  found p e f = sym e ∙ f
-
   pub long-enough : broken1 file ≡ false → 6 ≤ length file
   unfolding broken1
   long-enough e =
@@ -61,11 +58,11 @@ module _ (file : Bytes) where
   refused-3 a b e = sym (lowest-refused file 3 (after a (after b (here e refl))))
 
   module _ {n m : ℕ} (k : FrontKept file n m) where
-    pub refused-4 : broken4 file ≡ true → refused 4 ≡ check file
+    refused-4 : broken4 file ≡ true → refused 4 ≡ check file
     unfolding rules
     refused-4 e = sym (lowest-refused file 4 (after (k .one) (after (k .two) (after (k .three) (here e refl)))))
 
-    pub refused-5 : broken4 file ≡ false → broken5 file ≡ true → refused 5 ≡ check file
+    refused-5 : broken4 file ≡ false → broken5 file ≡ true → refused 5 ≡ check file
     unfolding rules
     refused-5 a e = sym (lowest-refused file 5 (after (k .one) (after (k .two) (after (k .three) (after a (here e refl))))))
 
@@ -82,35 +79,61 @@ module _ (file : Bytes) where
     refused-8 a b c d e =
         sym (lowest-refused file 8 (after (k .one) (after (k .two) (after (k .three) (after a (after b (after c (after d (here e refl)))))))))
 
-    -- the leaves own all steps, and the walks through them have found this of rules 6, 7 and 8
-    module _ (four : broken4 file ≡ false) (five : broken5 file ≡ false) (all : summed (map owned (nodes file)) ≡ m) {rule : ℕ} {effs ins : List ℕ}
-        (found : LeavesFound file n rule effs ins) where
-      rule-is : rule ≡ lowest (broken6 file) (broken7 file) (broken8 file)
-      rule-is = found .is ∙ ap (λ (b : Bool). lowest b (broken7 file) (broken8 file)) (sym (six-leaves (k .frame) all))
+    -- rule 4 by its two parts
+    by-parts : {b : Bool} → nodesFit file ≡ b → broken4 file ≡ (not b || not (every rowFits (rows file)))
+    unfolding broken4 nodesFit
+    by-parts e = ap (λ (x : Bool). not x || not (every rowFits (rows file))) e
 
-      pub refused-leaf : (rule ≡ 0 → ⊥) → refused rule ≡ check file
-      unfolding lowest
-      refused-leaf some = ap refused rule-is ∙ go (broken6 file) (broken7 file) (broken8 file) refl refl refl
+    pub refused-node : nodesFit file ≡ false → refused 4 ≡ check file
+    refused-node e = refused-4 (by-parts e)
+
+    module _ (fits : nodesFit file ≡ true) where
+      -- a rule that was found broken before the step records were tested
+      refused-or-4 : (rule number : ℕ) → number ≡ ruleOr4 (every rowFits (rows file)) rule → (broken4 file ≡ false → refused rule ≡ check file)
+          → refused number ≡ check file
+      unfolding ruleOr4
+      refused-or-4 rule number e other = ap refused e ∙ go (every rowFits (rows file)) (by-parts fits)
         where
-          go : (six seven eight : Bool) → broken6 file ≡ six → broken7 file ≡ seven → broken8 file ≡ eight
-              → refused (lowest (broken6 file) (broken7 file) (broken8 file)) ≡ check file
-          go true seven eight a b c = ap (λ (x : Bool). refused (lowest x (broken7 file) (broken8 file))) a ∙ refused-6 four five a
-          go false true eight a b c = ap₂ (λ (x y : Bool). refused (lowest x y (broken8 file))) a b ∙ refused-7 four five a b
-          go false false true a b c = (λ i. refused (lowest (a i) (b i) (c i))) ∙ refused-8 four five a b c
-          go false false false a b c = absurd (some (rule-is ∙ λ i. lowest (a i) (b i) (c i)))
+          go : (b : Bool) → broken4 file ≡ not b → refused (ruleOr4 b rule) ≡ check file
+          go true four = other four
+          go false four = refused-4 four
 
-      pub leaves-kept : rule ≡ 0 → LeavesKept file n m
-      unfolding lowest
-      leaves-kept none = go (broken6 file) (broken7 file) (broken8 file) refl refl refl
-        where
-          go : (six seven eight : Bool) → broken6 file ≡ six → broken7 file ≡ seven → broken8 file ≡ eight → LeavesKept file n m
-          go true seven eight a b c = let e = sym none ∙ rule-is ∙ ap (λ (x : Bool). lowest x (broken7 file) (broken8 file)) a in absurd (omega (arith, e))
-          go false true eight a b c = let e = sym none ∙ rule-is ∙ ap₂ (λ (x y : Bool). lowest x y (broken8 file)) a b in absurd (omega (arith, e))
-          go false false true a b c = let e = sym none ∙ rule-is ∙ (λ i. lowest (a i) (b i) (c i)) in absurd (omega (arith, e))
-          go false false false a b c = record { front = k; four = four; five = five; six = a; seven = b; eight = c }
+      pub refused-child : (number : ℕ) → number ≡ ruleOr4 (every rowFits (rows file)) 5 → broken5 file ≡ true → refused number ≡ check file
+      refused-child number e five = refused-or-4 5 number e (λ four. refused-5 four five)
 
-    pub refused-sum : (b : Bool) → b ≡ eqb (summed (map owned (nodes file))) m → b ≡ false → broken4 file ≡ false → broken5 file ≡ false → refused 6 ≡ check file
-    refused-sum b e h four five = refused-6 four five (six-sum (k .frame) b e h)
+      module _ (five : broken5 file ≡ false) where
+        pub refused-sum : (number : ℕ) → number ≡ ruleOr4 (every rowFits (rows file)) 6 → (b : Bool) → b ≡ eqb (summed (map owned (nodes file))) m → b ≡ false
+            → refused number ≡ check file
+        refused-sum number e b g h = refused-or-4 6 number e (λ four. refused-6 four five (six-sum (k .frame) b g h))
+
+        -- the leaves own all steps, and the walks through them have found this of rules 4, 6, 7 and 8
+        module _ (all : summed (map owned (nodes file)) ≡ m) {rule : ℕ} {effs ins : List ℕ} (found : LeavesFound file n rule effs ins) where
+          rule-is : rule ≡ lowest (broken4 file) (broken6 file) (broken7 file) (broken8 file)
+          rule-is = let a = sym (by-parts fits) in let b = sym (six-leaves (k .frame) all) in found .is ∙ λ i. lowest (a i) (b i) (broken7 file) (broken8 file)
+
+          pub refused-leaf : (rule ≡ 0 → ⊥) → refused rule ≡ check file
+          unfolding lowest
+          refused-leaf some = ap refused rule-is ∙ go (broken4 file) (broken6 file) (broken7 file) (broken8 file) refl refl refl refl (λ z. some (rule-is ∙ z))
+            where
+              go : (four six seven eight : Bool) → broken4 file ≡ four → broken6 file ≡ six → broken7 file ≡ seven → broken8 file ≡ eight
+                  → (lowest four six seven eight ≡ 0 → ⊥) → refused (lowest four six seven eight) ≡ check file
+              go true six seven eight a b c d broken = refused-4 a
+              go false true seven eight a b c d broken = refused-6 a five b
+              go false false true eight a b c d broken = refused-7 a five b c
+              go false false false true a b c d broken = refused-8 a five b c d
+              go false false false false a b c d broken = absurd (broken refl)
+
+          pub leaves-kept : rule ≡ 0 → LeavesKept file n m
+          unfolding lowest
+          leaves-kept none = go (broken4 file) (broken6 file) (broken7 file) (broken8 file) refl refl refl refl (sym rule-is ∙ none)
+            where
+              go : (four six seven eight : Bool) → broken4 file ≡ four → broken6 file ≡ six → broken7 file ≡ seven → broken8 file ≡ eight
+                  → lowest four six seven eight ≡ 0 → LeavesKept file n m
+              go true six seven eight a b c d e = absurd (omega arith)
+              go false true seven eight a b c d e = absurd (omega arith)
+              go false false true eight a b c d e = absurd (omega arith)
+              go false false false true a b c d e = absurd (omega arith)
+              go false false false false a b c d e = record { front = k; four = a; five = five; six = b; seven = c; eight = d }
 
   module _ {n m : ℕ} (k : LeavesKept file n m) where
     pub treed : Treed file n m

@@ -1,5 +1,5 @@
-// The check: rules 1 to 10, each tried over the whole file, where the caller keeps it, before its answer counts. Rules 6 to 8 are tried in
-// one walk through each leaf.
+// The check: rules 1 to 10, each tried over the whole file, where the caller keeps it, before its answer counts. Rules 6 to 8, and rule 4 of
+// the step records, are tried in one walk through each leaf.
 ghost use mathlib.Core.Path.{_≡_};
 ghost use Rattle.rules.specs.Check.{check};
 ghost use Rattle.rules.specs.Interference.{leafEffects};
@@ -13,7 +13,8 @@ use reading::word16;
 use records::broken1;
 use records::broken2;
 use records::broken3;
-use records::broken4;
+use records::nodes_fit;
+use records::rule_or_4;
 use sets::broken9;
 use spreads::broken10;
 use surveying::all_owned;
@@ -55,19 +56,20 @@ fn check_tree(policy: &[u8], n: usize, m: usize, effects: &mut [u64], inserts: &
     )
 }
 
-// Rules 4 to 8, and what follows.
+// Rules 4 to 8, and what follows. The walk through the leaves is the first to read the step records: what is broken before it is answered
+// only where these keep rule 4.
 fn check_records(policy: &[u8], n: usize, m: usize) -> Checked
     requires { ⌜ FrontKept (now policy) n m ⌝ }
     ensures { λ r. ⌜ answered r ≡ check (now (policy .entry)) ⌝ }
 {
-    if broken4(policy, n, m) {
+    if !nodes_fit(policy, n) {
         return Checked::Refused(4);
     }
     if broken5(policy, n, m) {
-        return Checked::Refused(5);
+        return Checked::Refused(rule_or_4(policy, n, m, 5));
     }
     if !all_owned(policy, n, m) {
-        return Checked::Refused(6);
+        return Checked::Refused(rule_or_4(policy, n, m, 6));
     }
     let mut effects = [0u64; 31];
     let mut inserts = [0u32; 31];

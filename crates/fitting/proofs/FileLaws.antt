@@ -2,10 +2,11 @@
 use Prim.Native.Nat.{ℕ, _+_, _-_, _*_, _≤_, _<_}
 use native.Mathlib.Omega.{arith}
 use mathlib.Core.Path.{_≡_, sym, ap, _∙_}
-use mathlib.Core.Bool.{false, _&&_}
+use mathlib.Core.Bool.{true, false, _&&_}
 use mathlib.Core.List.{List}
 use lib.Dec.{eqb, leb}
 use lib.ListN.{length, getD, List·getD-eq-default}
+use Rattle.actions.proofs.Tests.{yes-of}
 use Rattle.policy.specs.Bytes.{Bytes, number}
 use Rattle.policy.specs.Records.{nodeSize, Node, nodeCount, stepCount, nodeAt, nodePlace}
 use Rattle.policy.specs.Steps.{Step, halt, isNext}
@@ -13,9 +14,10 @@ use Rattle.policy.specs.Tree.{Way, Join, NodeKind, aLeaf, aTrivial, anUnsatisfi
 use Rattle.rules.specs.Passed.{Passed}
 use Rattle.rules.proofs.Grown.{placeIn, shaped}
 use Rattle.rules.proofs.Numbers.{ChildrenLater, node-read, tree-read, children-read}
-use Rattle.rules.proofs.Rows.{all-owned}
+use Rattle.rules.proofs.Rows.{nodes-fit, all-owned}
 use Rattle.policy.specs.Tree.{treeAt}
 use Rattle.records.specs.Frame.{Framed}
+use Rattle.records.specs.Fits.{nodesFit}
 use Rattle.records.proofs.Frame.{framed, node-inside}
 use Rattle.reading.specs.Code.{codeAt}
 use Rattle.reading.proofs.CodeLaws.{code-length, code-at, next-kind}
@@ -46,6 +48,10 @@ module _ (file : Bytes) (at count start : ℕ) (bs : Bytes) (i o : ℕ) (e : o �
 module _ {file : Bytes} (ok : Passed file) where
   pub frame : Framed file (nodeCount file) (stepCount file)
   frame = framed file (ok .kept3)
+
+  fits : nodesFit file ≡ true
+  unfolding nodesFit
+  fits = yes-of _ (nodes-fit file (ok .kept4))
 
   -- node i, whose record begins at `place`
   module _ (i place : ℕ) (h : i < nodeCount file) (p : place ≡ nodePlace i) where
@@ -81,17 +87,17 @@ module _ {file : Bytes} (ok : Passed file) where
 
     module _ (count : ℕ) (c : count ≡ x .count) where
       pub counts : Counted file i count
-      counts = counted frame (ok .kept4) i place count h p c
+      counts = counted frame fits i place count h p c
 
       -- with its steps from `at` on
       module _ (at : ℕ) (a : at ≡ 6 + 16 * nodeCount file + 12 * firstStep file i) where
         pub steps-inside : at + 12 * count ≤ length file
-        steps-inside = inside-here frame (ok .kept4) (all-owned file (ok .kept6)) i place at count h p a c
+        steps-inside = inside-here frame fits (all-owned file (ok .kept6)) i place at count h p a c
 
         pub is-leaf : (start : ℕ) → aLeaf ≡ nodeKind (x .kind) → start ≡ x .start → treeAt file i ≡ leaf i (x .set) start (codeAt file at count)
         unfolding shaped
         is-leaf start e s =
-            let code : placeIn (places file) i .steps ≡ codeAt file at count = sym (code-is frame (ok .kept4) (all-owned file (ok .kept6)) i place at count h p a c) in
+            let code : placeIn (places file) i .steps ≡ codeAt file at count = sym (code-is frame fits (all-owned file (ok .kept6)) i place at count h p a c) in
             let same = node-read file h p in shape e ∙ λ j. leaf i (same j .set) ((ap (λ (y : Node). y .start) same ∙ sym s) j) (code j)
 
   -- from where the steps of node i begin back to where those of the node before it do

@@ -1,26 +1,26 @@
 -- What is marked at a step when the walk comes to it is what is marked there at the end, unless it is a next; and what a next's test is.
 -- Assumes nothing.
-use Prim.Native.Nat.{ℕ, suc, _+_, _-_, _*_, _≤_, _<_}
+use Prim.Native.Nat.{ℕ, suc, _+_, _^_, _≤_, _<_}
 use native.Mathlib.Omega.{arith}
 use mathlib.Core.Path.{_≡_, refl, sym, ap, _∙_, subst}
 use mathlib.Core.Bool.{Bool, true, false, _&&_, _||_, not}
 use mathlib.Core.List.{List, [], _∷_, _++_, List·Memᴰ, List·Memᴰ·head, List·Memᴰ·tail}
 use lib.Dec.{T, eqb}
-use lib.ListN.{getD}
+use lib.ListN.{length, getD, List·getD-eq-default}
+use mathlib.Core.Logic.{⊎-elim}
 use borrow.Author.Tests.{ne-eqb}
-use Rattle.actions.specs.Sets.{ActionSet}
-use Rattle.actions.proofs.Tests.{true-not-false}
-use Rattle.policy.specs.Bytes.{Bytes}
-use Rattle.policy.specs.Lists.{one, listed, everyAt}
-use Rattle.policy.specs.Records.{rowAt}
-use Rattle.policy.specs.Steps.{Step, next, ok, sup, ins, acase, spend, end, halt, targets, isNext, stepOf}
-use Rattle.policy.proofs.ListLaws.{everyAt-rest, everyAt-over}
-use Rattle.reading.specs.Code.{codeAt}
+use Rattle.actions.specs.Sets.{ActionSet, has, meets}
+use Rattle.actions.proofs.SetLaws.{has-low, meets-apart, apart-meets}
+use Rattle.actions.proofs.Tests.{true-not-false, of-yes, yes-of, and-intro, and-left, and-right, both}
+use Rattle.policy.specs.Lists.{one, everyAt}
+use Rattle.policy.specs.Steps.{Step, next, ok, sup, ins, acase, spend, end, halt, targets, isNext}
+use Rattle.policy.proofs.ListLaws.{everyAt-at}
 use Rattle.rules.specs.Targets.{targetsFit}
 use Rattle.rules.specs.Modes.{Mode, idle, pending, closing, isIdle, isPending, isClosing, sameMode, stands, Mark, leads, marked, reachedBy, leadsIf, walked, stepped}
 use Rattle.rules.specs.Modes.{marks, modeFits, modesFit}
-use Rattle.rules.proofs.Ahead.{Suffix, suffix-head, suffix-tail, never-back}
-use Rattle.modes.specs.Marks.{MarkedHere, othersFit, nextsFit}
+use Rattle.rules.proofs.Ahead.{in-or-out, Suffix, suffix-head, suffix-tail, never-back}
+use Rattle.modes.specs.Marks.{word, Agrees, MarkedHere, NextsAre, othersFit, nextsFit}
+use Rattle.modes.specs.declared.Marks.{Marks}
 
 -- ---- marks elsewhere
 
@@ -107,12 +107,6 @@ next-fits (spend a y z) o i p c ks n h = true-not-false n refl
 next-fits end o i p c ks n h = true-not-false n refl
 next-fits halt o i p c ks n h = true-not-false n refl
 
-pub not-tested : (s : Step) (o : ℕ) (ks : List Mark) → isNext s ≡ false → true ≡ (not (isNext s) || modeFits ks o s)
-not-tested s o ks n = sym (ap (λ (b : Bool). not b || modeFits ks o s) n)
-
-pub is-tested : (s : Step) (o : ℕ) (ks : List Mark) (fits : Bool) → isNext s ≡ true → fits ≡ modeFits ks o s → fits ≡ (not (isNext s) || modeFits ks o s)
-is-tested s o ks fits n e = e ∙ sym (ap (λ (b : Bool). not b || modeFits ks o s) n)
-
 -- ---- the two parts are the whole
 
 parts : (f : ℕ → Step → Bool) (o : ℕ) (ss : List Step) → (everyAt (λ p s. isNext s || f p s) o ss && everyAt (λ p s. not (isNext s) || f p s) o ss) ≡ everyAt f o ss
@@ -131,23 +125,54 @@ pub modes-parts : (code : List Step) → (othersFit code && nextsFit code) ≡ m
 unfolding othersFit nextsFit modesFit
 modes-parts code = parts (modeFits (marks code)) 0 code
 
--- ---- the nexts from offset o on
+-- ---- the nexts, by words
 
-module _ (file : Bytes) (at count : ℕ) where
-  abbrev nextTest : ℕ → Step → Bool
-  nextTest o s = not (isNext s) || modeFits (marks (codeAt file at count)) o s
+every-by : {A : Type 0} (f : ℕ → A → Bool) (i : ℕ) (xs : List A) (d : A) → ((j : ℕ) → j < length xs → T (f (i + j) (getD xs j d))) → T (everyAt f i xs)
+unfolding everyAt
+every-by f i [] d h = tt
+every-by f i (x ∷ xs) d h =
+    let z : i + 0 ≡ i = omega arith in
+    and-intro (f i x) (everyAt f (suc i) xs) (subst (λ (n : ℕ). T (f n x)) z (h 0 (omega arith)))
+    (every-by f (suc i) xs d (λ j l. let y : i + suc j ≡ suc i + j = omega arith in subst (λ (n : ℕ). T (f n (getD xs j d))) y (h (suc j) (omega (arith, l)))))
 
-  unfoldable pub nextsFrom : ℕ → Bool
-  nextsFrom o = everyAt nextTest o (listed (λ k. stepOf (rowAt file (at + 12 * k))) o (count - o))
+-- what is past the last step is no next
+next-inside : (code : List Step) (o : ℕ) → isNext (getD code o halt) ≡ true → o < length code
+unfolding isNext
+next-inside code o e = ⊎-elim (λ l. l) (λ l. true-not-false e (ap isNext (List·getD-eq-default code halt l))) (in-or-out (length code) o)
 
-  pub nexts-whole : nextsFit (codeAt file at count) ≡ nextsFrom 0
-  unfolding nextsFrom nextsFit codeAt
-  nexts-whole = let z : count ≡ count - 0 = omega arith in ap (λ (n : ℕ). everyAt nextTest 0 (listed (λ k. stepOf (rowAt file (at + 12 * k))) 0 n)) z
+module _ (nexts : ℕ) (small : nexts < 2 ^ 64) (seen : Marks) (code : List Step) (are : NextsAre nexts code) (agree : Agrees seen (marks code)) where
+  abbrev test : ℕ → Step → Bool
+  test o s = not (isNext s) || modeFits (marks code) o s
 
-  pub nexts-rest : (o : ℕ) → o < count → nextsFrom o ≡ (nextTest o (stepOf (rowAt file (at + 12 * o))) && nextsFrom (o + 1))
-  unfolding nextsFrom
-  nexts-rest o h = everyAt-rest nextTest (λ k. stepOf (rowAt file (at + 12 * k))) o count h
+  -- a next fits where neither word has it
+  fits-there : (o : ℕ) → isNext (getD code o halt) ≡ true → (not (has (seen .pending) o) && not (has (seen .closing) o)) ≡ modeFits (marks code) o (getD code o halt)
+  unfolding word
+  fits-there o e =
+      let l : o < 64 = has-low nexts o (are o ∙ e) in
+      next-fits (getD code o halt) o (has (seen .idle) o) (has (seen .pending) o) (has (seen .closing) o) (marks code) e
+      (record { idly = agree .at idle o l; pendingly = agree .at pending o l; closingly = agree .at closing o l })
 
-  pub nexts-over : (o : ℕ) → count ≤ o → nextsFrom o ≡ true
-  unfolding nextsFrom
-  nexts-over o h = everyAt-over nextTest (λ k. stepOf (rowAt file (at + 12 * k))) o count h
+  apart-fit : T (not (meets nexts (seen .pending)) && not (meets nexts (seen .closing))) → T (nextsFit code)
+  unfolding nextsFit
+  apart-fit t = every-by test 0 code halt (λ o l. let z : o ≡ 0 + o = omega arith in subst (λ (n : ℕ). T (test n (getD code o halt))) z (go o (isNext (getD code o halt)) refl))
+    where
+      go : (o : ℕ) (b : Bool) → isNext (getD code o halt) ≡ b → T (test o (getD code o halt))
+      go o true e =
+          let h : T (has nexts o) = of-yes (has nexts o) (are o ∙ e) in
+          let p = meets-apart nexts (seen .pending) (and-left (not (meets nexts (seen .pending))) (not (meets nexts (seen .closing))) t) o h in
+          let c = meets-apart nexts (seen .closing) (and-right (not (meets nexts (seen .pending))) (not (meets nexts (seen .closing))) t) o h in
+          rw e (subst T (fits-there o e) (and-intro (not (has (seen .pending) o)) (not (has (seen .closing) o)) p c))
+      go o false e = rw e tt
+
+  fit-apart : T (nextsFit code) → T (not (meets nexts (seen .pending)) && not (meets nexts (seen .closing)))
+  unfolding nextsFit
+  fit-apart t = and-intro (not (meets nexts (seen .pending))) (not (meets nexts (seen .closing))) (apart-meets nexts (seen .pending) small (λ o h. and-left (not (has (seen .pending) o)) (not (has (seen .closing) o)) (here o h)))
+      (apart-meets nexts (seen .closing) small (λ o h. and-right (not (has (seen .pending) o)) (not (has (seen .closing) o)) (here o h)))
+    where
+      here : (o : ℕ) → T (has nexts o) → T (not (has (seen .pending) o) && not (has (seen .closing) o))
+      here o h =
+          let e : isNext (getD code o halt) ≡ true = sym (are o) ∙ yes-of (has nexts o) h in
+          subst T (sym (fits-there o e)) (subst (λ (b : Bool). T (not b || modeFits (marks code) o (getD code o halt))) e (let z : 0 + o ≡ o = omega arith in subst (λ (n : ℕ). T (test n (getD code o halt))) z (everyAt-at test 0 code halt t o (next-inside code o e))))
+
+  pub nexts-by-words : (not (meets nexts (seen .pending)) && not (meets nexts (seen .closing))) ≡ nextsFit code
+  nexts-by-words = both (not (meets nexts (seen .pending)) && not (meets nexts (seen .closing))) (nextsFit code) apart-fit fit-apart

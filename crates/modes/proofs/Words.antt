@@ -1,22 +1,20 @@
 -- The marks in their words: what the first mark, one mark more and a look at one offset are. Whatever opens `Agrees` is here. Assumes nothing.
-use Prim.Native.Nat.{ℕ, _*_, _%_, _^_, _≤_, _<_}
+use Prim.Native.Nat.{ℕ, _*_, _%_, _^_, _<_}
 use native.Mathlib.Nat.{one-mul}
 use native.Mathlib.Omega.{arith}
 use mathlib.Core.Path.{_≡_, refl, sym, ap, _∙_, subst}
-use mathlib.Core.Bool.{Bool, true, false, _&&_, _||_, and-false, or-comm}
+use mathlib.Core.Bool.{Bool, false, _&&_, _||_, or-comm}
 use mathlib.Core.List.{List, [], _∷_}
 use lib.Dec.{T, eqb, eqb→eq, lit<}
 use lib.Pow.{shl-exact}
-use mir.Val.{boolByte}
 use borrow.Author.Tests.{le-leb, eq-eqb}
 use Rattle.actions.specs.Sets.{ActionSet, isAction, has, EMPTY, single, union}
 use Rattle.actions.proofs.Tests.{of-yes, both}
 use Rattle.actions.proofs.SetLaws.{has-empty, single-action, has-single, has-union}
-use Rattle.policy.specs.Lists.{one}
 use Rattle.rules.specs.Modes.{Mode, idle, pending, closing, isIdle, isPending, isClosing, sameMode, Mark, marked}
 use Rattle.modes.specs.declared.Marks.{Marks}
 use Rattle.modes.specs.Table.{modeNumber, reaching}
-use Rattle.modes.specs.Marks.{word, Agrees, Adds, onlyIf, MarkedHere}
+use Rattle.modes.specs.Marks.{word, Agrees, Adds, MarkedHere}
 
 -- ---- one bit
 
@@ -33,16 +31,6 @@ has-one o p h = has-single o p ∙ ap (λ (t : Bool). t && eqb o p) (le-leb o 63
 -- the shift loses no bit
 pub shifted : (o : ℕ) → o < 64 → (1 * 2 ^ o) % 2 ^ 64 ≡ single o
 shifted o h = shl-exact 1 o 64 (lit< tt) (omega arith) ∙ one-mul (2 ^ o) ∙ sym (single-action o (omega arith))
-
--- a bool as the number that a cast gives
-pub byte-one : (b : Bool) → boolByte b ≡ one b
-unfolding one
-byte-one true = refl
-byte-one false = refl
-
-pub byte-small : (b : Bool) → boolByte b ≤ 1
-byte-small true = omega arith
-byte-small false = omega arith
 
 -- ---- one mark more
 
@@ -70,17 +58,15 @@ has-joined w n m s p = go n m
     go closing pending = refl
     go closing closing = here (w .closing)
 
--- an offset, if `here`
-pub joined-adds : (w : Marks) (n : Mode) (s : ActionSet) (here : Bool) (mode o : ℕ) → mode ≡ modeNumber n → ((p : ℕ) → has s p ≡ (here && eqb p o))
-    → Adds w (joined w n s) (onlyIf here (reaching mode o))
-unfolding Adds onlyIf marked reaching modeNumber
-joined-adds w n s here mode o e f = subst (λ (k : ℕ). Adds w (joined w n s) (onlyIf here (reaching k o))) (sym e) (go n here f)
+-- an offset
+pub joined-adds : (w : Marks) (n : Mode) (s : ActionSet) (mode o : ℕ) → mode ≡ modeNumber n → ((p : ℕ) → has s p ≡ eqb p o) → Adds w (joined w n s) (reaching mode o)
+unfolding Adds marked reaching modeNumber
+joined-adds w n s mode o e f = subst (λ (k : ℕ). Adds w (joined w n s) (reaching k o)) (sym e) (go n)
   where
-    one-more : (n : Mode) (here : Bool) → ((p : ℕ) → has s p ≡ (here && eqb p o)) → Adds w (joined w n s) (onlyIf here (record { mode = n; offset = o } ∷ []))
-    one-more n true f ks g = record { at = λ m p h. has-joined w n m s p ∙ (λ j. (sameMode m n && f p j) || g .at m p h j) }
-    one-more n false f ks g = record { at = λ m p h. has-joined w n m s p ∙ (λ j. (sameMode m n && f p j) || g .at m p h j) ∙ ap (λ (t : Bool). t || marked m p ks) (and-false (sameMode m n)) }
+    one-more : (n : Mode) → Adds w (joined w n s) (record { mode = n; offset = o } ∷ [])
+    one-more n ks g = record { at = λ m p h. has-joined w n m s p ∙ (λ j. (sameMode m n && f p j) || g .at m p h j) }
 
-    go : (n : Mode) (here : Bool) → ((p : ℕ) → has s p ≡ (here && eqb p o)) → Adds w (joined w n s) (onlyIf here (reaching (modeNumber n) o))
+    go : (n : Mode) → Adds w (joined w n s) (reaching (modeNumber n) o)
     go idle = one-more idle
     go pending = one-more pending
     go closing = one-more closing

@@ -3,10 +3,11 @@ use Prim.Native.Nat.{ℕ, _+_, _<_}
 use mathlib.Core.Path.{_≡_}
 use mathlib.Core.Bool.{Bool, true, false, _&&_, _||_, not}
 use mathlib.Core.List.{List, [], _++_}
-use lib.Dec.{eqb, ltb}
+use lib.Dec.{T, eqb, ltb}
+use lib.ListN.{getD}
 use Rattle.actions.specs.Sets.{ActionSet, has}
 use Rattle.policy.specs.Lists.{one, every, everyAt}
-use Rattle.policy.specs.Steps.{Step, isNext}
+use Rattle.policy.specs.Steps.{Step, halt, isNext}
 use Rattle.rules.specs.Modes.{Mode, idle, pending, closing, Mark, marked, stepped, marks, modeFits}
 use Rattle.modes.specs.declared.Marks.{Marks}
 use Rattle.modes.specs.declared.Led.{Led}
@@ -45,15 +46,22 @@ pub record MarkedHere (i p c : Bool) (o : ℕ) (ks : List Mark) : Type 0 where
 unfoldable pub fitsIn : (idle pending closing : ℕ) (i p c : Bool) → Bool
 fitsIn e f g i p c = ((eqb (one i + one p + one c) 1 && (not i || mayStand e)) && (not p || mayStand f)) && (not c || mayStand g)
 
--- What the walk has of the step at o, by the marks before it: the marks after it, and its test, which is not made of a next.
+-- What the walk has of the step at o, which is no next, by the marks before it: its test, and, where that holds, the marks after it.
 pub record StepLed (o : ℕ) (s : Step) (ks : List Mark) (r : Led) : Type 0 where
-  pub marks : Agrees (r .marks) (stepped o s ks)
-  pub test : r .fits ≡ (isNext s || modeFits ks o s)
+  pub test : r .fits ≡ modeFits ks o s
+  pub marks : T (r .fits) → Agrees (r .marks) (stepped o s ks)
 
 -- Rule 7 in two parts: of the steps that are no next, and of the nexts. A step may lead back to a next alone, so when the walk comes to
 -- any other step its marks are all made.
 unfoldable pub othersFit : List Step → Bool
 othersFit code = everyAt (λ o s. isNext s || modeFits (marks code) o s) 0 code
+
+-- the offsets of a word are those of the nexts before offset o, and in the end of all nexts
+abbrev pub NextsBefore : ℕ → ActionSet → List Step → Type 0
+NextsBefore o nexts code = (q : ℕ) → has nexts q ≡ (ltb q o && isNext (getD code q halt))
+
+abbrev pub NextsAre : ActionSet → List Step → Type 0
+NextsAre nexts code = (o : ℕ) → has nexts o ≡ isNext (getD code o halt)
 
 unfoldable pub nextsFit : List Step → Bool
 nextsFit code = everyAt (λ o s. not (isNext s) || modeFits (marks code) o s) 0 code

@@ -1,5 +1,5 @@
 -- The mode rule as a table, a row for each kind of step and a column for each mode, and what an entry says. Assumes nothing.
-use Prim.Native.Nat.{ℕ, zero, suc, _+_, _*_, _/_, _%_}
+use Prim.Native.Nat.{ℕ, _+_, _-_, _*_, _/_, _%_}
 use mathlib.Core.Path.{_≡_}
 use mathlib.Core.Bool.{Bool}
 use mathlib.Core.List.{List, [], _∷_, _++_}
@@ -19,11 +19,10 @@ modeNumber closing = 2
 abbrev entry : ℕ → ℕ → ℕ → ℕ
 entry may first second = 16 * may + 4 * first + second
 
--- A row for each kind of step. `table-ruled` holds every entry to the rule.
+-- A row for each kind of step, from 1 on. `table-ruled` holds every entry to the rule.
 unfoldable pub table : List (List ℕ)
 table =
-    (entry 0 3 3 ∷ entry 0 3 3 ∷ entry 0 3 3 ∷ [])  -- no kind
-    ∷ (entry 1 1 2 ∷ entry 0 1 2 ∷ entry 0 1 2 ∷ [])  -- next
+    (entry 1 1 2 ∷ entry 0 1 2 ∷ entry 0 1 2 ∷ [])  -- next
     ∷ (entry 0 0 3 ∷ entry 1 0 3 ∷ entry 0 0 3 ∷ [])  -- ok
     ∷ (entry 0 0 3 ∷ entry 1 0 3 ∷ entry 0 0 3 ∷ [])  -- sup
     ∷ (entry 1 0 3 ∷ entry 1 1 3 ∷ entry 1 2 3 ∷ [])  -- ins
@@ -35,7 +34,7 @@ table =
 
 unfoldable pub entryAt : ℕ → ℕ → ℕ
 unfolding table
-entryAt kind mode = getD (getD table kind []) mode 0
+entryAt kind mode = getD (getD table (kind - 1) []) mode 0
 
 -- the mode of the first target that is reached, and of the second; 3 where there is none
 unfoldable pub firstMode : List Mark → ℕ
@@ -46,11 +45,10 @@ unfoldable pub secondMode : List Mark → ℕ
 secondMode [] = 3
 secondMode (k ∷ ks) = firstMode ks
 
--- The rule's own entry, of a step of this kind in a mode. Kind 0 is no kind: it stands nowhere and leads nowhere.
-unfoldable pub ruled : ℕ → Step → Mode → ℕ
+-- The rule's own entry, of a step in a mode.
+unfoldable pub ruled : Step → Mode → ℕ
 unfolding firstMode secondMode
-ruled zero s m = entry 0 3 3
-ruled (suc k) s m = entry (one (stands s m)) (firstMode (leads s m)) (secondMode (leads s m))
+ruled s m = entry (one (stands s m)) (firstMode (leads s m)) (secondMode (leads s m))
 
 -- the mark of an offset in a mode by number: none in mode 3
 unfoldable pub reaching : ℕ → ℕ → List Mark

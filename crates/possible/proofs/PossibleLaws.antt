@@ -1,45 +1,21 @@
--- What a step makes of what is possible at it: the kinds that a function has nothing to do for, and that a walk leaves alone what is
+-- What a step makes of what is possible at it: that a walk leaves alone what is
 -- possible at an earlier step, unless that is a next. Assumes nothing.
 use Prim.Native.Nat.{ℕ, suc, _<_, _≤_}
 use native.Mathlib.Omega.{arith}
 use mathlib.Core.Path.{_≡_, refl, sym, ap, ap₂, _∙_, subst}
-use mathlib.Core.Bool.{true, false, not, _&&_}
+use mathlib.Core.Bool.{false, not, _&&_}
 use mathlib.Core.List.{List, [], _∷_, List·Memᴰ, List·Memᴰ·head, List·Memᴰ·tail}
 use lib.Dec.{T, ltb, ltb→lt}
-use lib.ListN.{getD, set, take}
+use lib.ListN.{length, getD, set, take, length-set}
 use lib.Seq.{getD-set-other, take-set-lt, getD-take}
 use Rattle.actions.specs.Sets.{ActionSet, EMPTY, union, common, difference, isEmpty}
 use Rattle.actions.proofs.Tests.{and-left, and-right}
 use Rattle.policy.specs.Lists.{every}
-use Rattle.policy.specs.Records.{Row}
-use Rattle.policy.specs.Steps.{Step, next, ok, sup, ins, acase, spend, end, halt, stepOf, targets, isNext}
-use Rattle.reading.proofs.Rows.{by-kind}
+use Rattle.policy.specs.Steps.{Step, next, ok, sup, ins, acase, spend, end, halt, targets, isNext}
 use Rattle.rules.specs.Targets.{targetsFit}
 use Rattle.rules.specs.Possible.{joinAt, passOn, passedOn, branchesTaken}
 use Rattle.rules.specs.Interference.{stepEffects}
 use Rattle.rules.proofs.Ahead.{Suffix, suffix-head, suffix-tail, never-back}
-
--- ---- the kinds that a function has nothing to do for
-
-pub nothing-passed : (r p : ActionSet) (ps : List ActionSet) (row : Row) → (row .kind ≡ 1 → ⊥) → (row .kind ≡ 4 → ⊥) → (row .kind ≡ 5 → ⊥) → (row .kind ≡ 6 → ⊥)
-    → ps ≡ passOn r (stepOf row) p ps
-unfolding passOn
-nothing-passed r p ps row =
-    by-kind (λ k s. (k ≡ 1 → ⊥) → (k ≡ 4 → ⊥) → (k ≡ 5 → ⊥) → (k ≡ 6 → ⊥) → ps ≡ passOn r s p ps) row
-    (λ a b c d. absurd (a refl)) (λ a b c d. refl) (λ a b c d. refl) (λ a b c d. absurd (b refl)) (λ a b c d. absurd (c refl))
-    (λ a b c d. absurd (d refl)) (λ a b c d. refl) (λ k a b c d. refl)
-
-pub no-branches : (ps : List ActionSet) (o : ℕ) (row : Row) → (row .kind ≡ 5 → ⊥) → true ≡ branchesTaken ps o (stepOf row)
-unfolding branchesTaken
-no-branches ps o row =
-    by-kind (λ k s. (k ≡ 5 → ⊥) → true ≡ branchesTaken ps o s) row
-    (λ n. refl) (λ n. refl) (λ n. refl) (λ n. refl) (λ n. absurd (n refl)) (λ n. refl) (λ n. refl) (λ k n. refl)
-
-pub no-effects : (p : ActionSet) (row : Row) → (row .kind ≡ 3 → ⊥) → (row .kind ≡ 4 → ⊥) → EMPTY ≡ stepEffects p (stepOf row)
-unfolding stepEffects
-no-effects p row =
-    by-kind (λ k s. (k ≡ 3 → ⊥) → (k ≡ 4 → ⊥) → EMPTY ≡ stepEffects p s) row
-    (λ a b. refl) (λ a b. refl) (λ a b. absurd (a refl)) (λ a b. absurd (b refl)) (λ a b. refl) (λ a b. refl) (λ a b. refl) (λ k a b. refl)
 
 -- the second set is joined where the first has been
 pub two-joins : (ps : List ActionSet) (y z : ℕ) {s s′ t t′ : ActionSet} {qs rs : List ActionSet}
@@ -66,6 +42,21 @@ join-take n ps t s h = take-set-lt n ps t _ h ∙ ap (λ (x : ActionSet). set (t
 joins-take : (n : ℕ) (ps : List ActionSet) (y z : ℕ) (s t : ActionSet) → y < n → z < n
     → take n (joinAt (joinAt ps y s) z t) ≡ joinAt (joinAt (take n ps) y s) z t
 joins-take n ps y z s t a b = join-take n (joinAt ps y s) z t b ∙ ap (λ (l : List ActionSet). joinAt l z t) (join-take n ps y s a)
+
+pub join-length : (ps : List ActionSet) (t : ℕ) (s : ActionSet) → length (joinAt ps t s) ≡ length ps
+unfolding joinAt
+join-length ps t s = length-set ps t _
+
+pub pass-length : (r : ActionSet) (k : Step) (p : ActionSet) (ps : List ActionSet) → length (passOn r k p ps) ≡ length ps
+unfolding passOn
+pass-length r (next t d) p ps = join-length ps t r
+pass-length r (ok t) p ps = refl
+pass-length r (sup t) p ps = refl
+pass-length r (ins b t) p ps = join-length ps t p
+pass-length r (acase s y z) p ps = join-length (joinAt ps y (common p s)) z (difference p s) ∙ join-length ps y (common p s)
+pass-length r (spend m y z) p ps = join-length (joinAt ps y p) z p ∙ join-length ps y p
+pass-length r end p ps = refl
+pass-length r halt p ps = refl
 
 pub pass-take : (n : ℕ) (r : ActionSet) (k : Step) (p : ActionSet) (ps : List ActionSet) → T (every (λ (u : ℕ). ltb u n) (targets k))
     → take n (passOn r k p ps) ≡ passOn r k p (take n ps)

@@ -71,14 +71,6 @@ by-kind P r a b c d e f g h = go (r .kind)
     go (suc (suc (suc (suc (suc (suc (suc (suc zero)))))))) = h 8
     go (suc (suc (suc (suc (suc (suc (suc (suc (suc k))))))))) = h (suc (suc (suc (suc (suc (suc (suc (suc (suc k)))))))))
 
--- a step of no kind that has targets is an end or a halt
-pub stops-else : {A : Type 0} (f : Step → A) (r : Row) → f end ≡ f halt → (r .kind ≡ 1 → ⊥) → (r .kind ≡ 2 → ⊥) → (r .kind ≡ 3 → ⊥)
-    → (r .kind ≡ 4 → ⊥) → (r .kind ≡ 5 → ⊥) → (r .kind ≡ 6 → ⊥) → f (stepOf r) ≡ f halt
-stops-else f r same =
-    by-kind (λ k s. (k ≡ 1 → ⊥) → (k ≡ 2 → ⊥) → (k ≡ 3 → ⊥) → (k ≡ 4 → ⊥) → (k ≡ 5 → ⊥) → (k ≡ 6 → ⊥) → f s ≡ f halt) r
-    (λ a b c d e g. absurd (a refl)) (λ a b c d e g. absurd (b refl)) (λ a b c d e g. absurd (c refl)) (λ a b c d e g. absurd (d refl))
-    (λ a b c d e g. absurd (e refl)) (λ a b c d e g. absurd (g refl)) (λ a b c d e g. same) (λ k a b c d e g. refl)
-
 -- ---- the enum
 
 meant-value : (s : Step) → stepMeant (stepValue s) ≡ s

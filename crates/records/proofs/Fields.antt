@@ -40,9 +40,9 @@ rowOf k a f s o = record { kind = k; action = a; first = f; second = s; operand 
 
 pub row-read : (file : Bytes) (at k a f s o : ℕ)
     → k ≡ number file at 1 → a ≡ number file (at + 1) 1 → f ≡ number file (at + 2) 1 → s ≡ number file (at + 3) 1 → o ≡ number file (at + 4) 8
-    → rowFits (rowOf k a f s o) ≡ rowFits (rowAt file at)
+    → rowOf k a f s o ≡ rowAt file at
 unfolding rowAt
-row-read file at k a f s o p q u v w = λ i. rowFits (rowOf (p i) (q i) (u i) (v i) (w i))
+row-read file at k a f s o p q u v w = λ i. rowOf (p i) (q i) (u i) (v i) (w i)
 
 -- no step has kind 0, or a kind above 8
 pub no-row : (k a f s o : ℕ) → (k ≡ 1 → ⊥) → (k ≡ 2 → ⊥) → (k ≡ 3 → ⊥) → (k ≡ 4 → ⊥) → (k ≡ 5 → ⊥) → (k ≡ 6 → ⊥) → (k ≡ 7 → ⊥) → (k ≡ 8 → ⊥)
@@ -64,18 +64,18 @@ no-row (suc (suc (suc (suc (suc (suc (suc (suc (suc k))))))))) _ _ _ _ p q r s t
 not-zero : (n : ℕ) → 0 < n → eqb n 0 ≡ false
 not-zero n h = ne-eqb n 0 (λ e. omega arith)
 
-halves : (high low : ℕ) → (eqb high 0 && eqb low 0) ≡ eqb (high * 4294967296 + low) 0
+pub halves : (high low : ℕ) → (eqb high 0 && eqb low 0) ≡ eqb (high * 4294967296 + low) 0
 halves zero zero = refl
 halves zero (suc low) = not-zero (suc low) (omega arith) ∙ sym (not-zero (0 * 4294967296 + suc low) (omega arith))
 halves (suc high) low =
     ap (λ (b : Bool). b && eqb low 0) (not-zero (suc high) (omega arith)) ∙ sym (not-zero (suc high * 4294967296 + low) (omega arith))
 
-high-alone : (high low : ℕ) → low < 4294967296 → eqb high 0 ≡ leb (high * 4294967296 + low) 4294967295
+pub high-alone : (high low : ℕ) → low < 4294967296 → eqb high 0 ≡ leb (high * 4294967296 + low) 4294967295
 high-alone zero low h = sym (le-leb (0 * 4294967296 + low) 4294967295 (omega arith))
 high-alone (suc high) low h = not-zero (suc high) (omega arith) ∙ sym (lt-leb (suc high * 4294967296 + low) 4294967295 (omega arith))
 
 module _ (file : Bytes) (at high low : ℕ) (e : high ≡ number file (at + 4) 4) (f : low ≡ number file (at + 8) 4) where
-  both : at + 12 ≤ length file → high * 4294967296 + low ≡ rowAt file at .operand
+  pub both : at + 12 ≤ length file → high * 4294967296 + low ≡ rowAt file at .operand
   unfolding rowAt
   both h =
       let z : at + 8 ≡ at + 4 + 4 = omega arith in

@@ -1,15 +1,16 @@
--- What a framed file gives: its counts, where its records lie, and its lists of records by the two counts. Assumes nothing.
+-- What a framed file gives: its counts, where its records lie, its list of nodes and the test of its steps by the two counts. Assumes nothing.
 use Prim.Native.Nat.{ℕ, _+_, _*_, _≤_, _<_}
 use native.Mathlib.Omega.{arith}
-use mathlib.Core.Path.{_≡_, refl, sym, ap, _∙_}
+use mathlib.Core.Path.{_≡_, refl, sym, ap}
 use mathlib.Core.Bool.{false}
 use lib.ListN.{length}
 use Rattle.policy.specs.Bytes.{Bytes}
-use Rattle.policy.specs.Lists.{listed}
-use Rattle.policy.specs.Records.{nodeSize, nodeCount, stepCount, nodeAt, rowAt, nodePlace, rowPlace, nodes, rows}
-use Rattle.rules.specs.Layout.{broken3}
+use Rattle.policy.specs.Lists.{listed, every}
+use Rattle.policy.specs.Records.{nodeSize, nodeCount, stepCount, nodeAt, nodePlace, rowPlace, nodes, rows}
+use Rattle.rules.specs.Layout.{rowFits, broken3}
 use Rattle.rules.proofs.Rows.{CountsFit, counts-fit}
 use Rattle.records.specs.Frame.{Framed}
+use Rattle.records.specs.Fits.{rowsFit}
 
 -- Rule 3 is enough: rules 1 and 2 say nothing of the counts.
 pub framed : (file : Bytes) → broken3 file ≡ false → Framed file (nodeCount file) (stepCount file)
@@ -35,8 +36,6 @@ module _ {file : Bytes} {n m : ℕ} (f : Framed file n m) where
   unfolding nodes nodePlace
   node-list = ap (λ (k : ℕ). listed (λ i. nodeAt file (6 + 16 * i)) 0 k) (sym (f .nodes))
 
-  pub row-list : rows file ≡ listed (λ i. rowAt file (6 + 16 * n + 12 * i)) 0 m
-  unfolding rows rowPlace nodePlace
-  row-list =
-      ap (λ (k : ℕ). listed (λ i. rowAt file (6 + 16 * k + 12 * i)) 0 (stepCount file)) (sym (f .nodes))
-      ∙ ap (λ (k : ℕ). listed (λ i. rowAt file (6 + 16 * n + 12 * i)) 0 k) (sym (f .steps))
+  pub all-rows : every rowFits (rows file) ≡ rowsFit file (6 + 16 * n) m
+  unfolding rows rowPlace nodePlace rowsFit
+  all-rows = let e = sym (f .nodes) in let g = sym (f .steps) in λ j. rowsFit file (6 + 16 * e j) (g j)

@@ -1,14 +1,20 @@
 // Rules 1 to 4: the file's front, and the layout of its records. A rule's tests are joined by `&` and `|`, as its definition joins
 // them: every field is read, and no branch is taken for each of them.
 ghost use mathlib.Core.Path.{_≡_};
-ghost use Prim.Native.Nat.{_+_, _*_, _≤_};
+ghost use Prim.Native.Nat.{_+_, _*_, _≤_, _<_};
 ghost use lib.ListN.{length};
-ghost use Rattle.policy.specs.Lists.{listed, every};
-ghost use Rattle.policy.specs.Records.{nodeSize, stepSize, mostNodes, nodeAt, rowAt, nodePlace};
+ghost use Rattle.policy.specs.Lists.{every};
+ghost use Rattle.policy.specs.Records.{nodeSize, stepSize, mostNodes, nodeCount, nodeAt, rowAt, nodePlace, rows};
+ghost use Rattle.policy.specs.Steps.{stepOf};
 ghost use Rattle.policy.specs.Tree.{nodeKind};
-ghost use Rattle.rules.specs.Layout.{broken1, broken2, broken3, broken4, nodeFits, noAction, noFirst, noSecond, rowFits};
+ghost use Rattle.reading.specs.Kinds.{stepValue};
+ghost use Rattle.rules.specs.Layout.{broken1, broken2, broken3, nodeFits, noAction, noFirst, noSecond, rowFits};
 ghost use Rattle.records.specs.Frame.{Framed};
+ghost use Rattle.records.specs.Fits.{nodesFit, rowsFit, ruleOr4};
+use actions::ActionSet;
 use reading::Kind;
+use reading::Operand;
+use reading::Step;
 use reading::byte;
 use reading::node_count;
 use reading::node_kind;
@@ -115,9 +121,75 @@ fn row_fits(policy: &[u8], at: usize) -> bool
     }
 }
 
-fn nodes_fit(policy: &[u8], n: usize) -> bool
-    requires { ⌜ (n ≤ mostNodes) × (nodePlace n ≤ length (now policy)) ⌝ }
-    ensures { λ r. ⌜ r ≡ every (λ x. nodeFits (nodeKind (x .kind)) x) (listed (λ i. nodeAt (now (policy .entry)) (nodePlace i)) 0 n) ⌝ }
+// ---- a step and its test, from one reading of its record
+
+// A step's record as the walk reads it: the step, and whether its fields keep rule 4.
+pub struct Read {
+    pub step: Step,
+    pub fits: bool,
+}
+
+fn read_as(step: Step, fits: bool) -> Read
+    ensures { λ r. ⌜ (r .step ≡ step) × (r .fits ≡ fits) ⌝ }
+{
+    Read { step, fits }
+}
+
+// An operand by its two halves.
+fn joined(high: u64, low: u64) -> u64
+    requires { ⌜ (high < 4294967296) × (low < 4294967296) ⌝ }
+    ensures { λ r. ⌜ r ≡ high * 4294967296 + low ⌝ }
+{
+    high * 4294967296 + low
+}
+
+// The operand's halves are joined only for a step that works with them as one number.
+pub fn row_read(policy: &[u8], at: usize) -> Read
+    requires { ⌜ at + stepSize ≤ length (now policy) ⌝ }
+    ensures { λ r. ⌜ r .step ≡ stepValue (stepOf (rowAt (now (policy .entry)) at)) ⌝ }
+    ensures { λ r. ⌜ r .fits ≡ rowFits (rowAt (now (policy .entry)) at) ⌝ }
+{
+    let kind = byte(policy, at);
+    let action = byte(policy, at + 1);
+    let first = byte(policy, at + 2);
+    let second = byte(policy, at + 3);
+    let high = word32(policy, at + 4);
+    let low = word32(policy, at + 8);
+    let no_action = action == 0;
+    let no_second = second == 0;
+    let no_operand = (high == 0) & (low == 0);
+    match kind {
+        1 => read_as(Step::Next(first, second), no_action & no_operand),
+        2 => read_as(Step::Ok(first), no_action & no_second & no_operand),
+        3 => read_as(Step::Sup(first), no_action & no_second & no_operand),
+        4 => read_as(
+            Step::Ins(Operand::Action(action), first),
+            (action <= 63) & no_second & no_operand,
+        ),
+        5 => {
+            let bits = joined(high, low);
+            let set = ActionSet { bits };
+            read_as(Step::Acase(Operand::Set(set), first, second), no_action)
+        }
+        6 => read_as(
+            Step::Spend(Operand::Amount(joined(high, low)), first, second),
+            no_action & (high == 0),
+        ),
+        7 => read_as(Step::End, no_action & (first == 0) & no_second & no_operand),
+        8 => read_as(
+            Step::Halt,
+            no_action & (first == 0) & no_second & no_operand,
+        ),
+        _ => read_as(Step::Halt, false),
+    }
+}
+
+// ---- rule 4, of every record
+
+// Rule 4 of all nodes.
+pub fn nodes_fit(policy: &[u8], n: usize) -> bool
+    requires { ⌜ (n ≡ nodeCount (now policy)) × (n ≤ mostNodes) × (nodePlace n ≤ length (now policy)) ⌝ }
+    ensures { λ r. ⌜ r ≡ nodesFit (now (policy .entry)) ⌝ }
 {
     let mut i = 0;
     while i < n {
@@ -129,10 +201,10 @@ fn nodes_fit(policy: &[u8], n: usize) -> bool
     true
 }
 
-// The records of the steps lie from `at` on.
-fn rows_fit(policy: &[u8], at: usize, m: usize) -> bool
+// Rule 4 of m step records, which lie from `at` on.
+pub fn rows_fit(policy: &[u8], at: usize, m: usize) -> bool
     requires { ⌜ at + 12 * m ≤ length (now policy) ⌝ }
-    ensures { λ r. ⌜ r ≡ every rowFits (listed (λ i. rowAt (now (policy .entry)) (at + 12 * i)) 0 m) ⌝ }
+    ensures { λ r. ⌜ r ≡ rowsFit (now (policy .entry)) at m ⌝ }
 {
     let mut i = 0;
     while i < m {
@@ -144,9 +216,14 @@ fn rows_fit(policy: &[u8], at: usize, m: usize) -> bool
     true
 }
 
-pub fn broken4(policy: &[u8], n: usize, m: usize) -> bool
+// A rule that is broken is answered only where no step record breaks rule 4, which has the lower number.
+pub fn rule_or_4(policy: &[u8], n: usize, m: usize, rule: u8) -> u8
     requires { ⌜ Framed (now policy) n m ⌝ }
-    ensures { λ r. ⌜ r ≡ broken4 (now (policy .entry)) ⌝ }
+    ensures { λ r. ⌜ r ≡ ruleOr4 (every rowFits (rows (now (policy .entry)))) rule ⌝ }
 {
-    !nodes_fit(policy, n) | !rows_fit(policy, node_place(n), m)
+    if rows_fit(policy, node_place(n), m) {
+        rule
+    } else {
+        4
+    }
 }

@@ -10,7 +10,7 @@ use lib.ListN.{length, getD, drop, drop-of-length-le}
 use borrow.Author.Tests.{eq-eqb}
 use lib.Seq.{drop-cons}
 use Rattle.actions.specs.Sets.{ActionSet}
-use Rattle.actions.proofs.Tests.{and-left, and-right}
+use Rattle.actions.proofs.Tests.{of-yes, and-left, and-right}
 use Rattle.policy.specs.Bytes.{Bytes}
 use Rattle.policy.specs.Lists.{summed}
 use Rattle.policy.specs.Records.{Node, nodeAt, nodePlace, nodeCount, stepCount, nodes, rows}
@@ -18,13 +18,14 @@ use Rattle.policy.specs.Steps.{Step, stepOf}
 use Rattle.policy.specs.Tree.{NodeKind, aLeaf, aTrivial, anUnsatisfiable, aPair, noNode, nodeKind, owned, firstStep, Place, noPlace, placed, places}
 use Rattle.policy.proofs.ListLaws.{every-at}
 use Rattle.policy.proofs.NodeLaws.{noN, nodes-length, node-of, first-next, first-in}
-use Rattle.rules.specs.Layout.{nodeFits, broken4}
+use Rattle.rules.specs.Layout.{nodeFits}
 use Rattle.rules.specs.Leaves.{everyLeaf}
 use Rattle.rules.proofs.Grown.{placeIn}
 use Rattle.rules.specs.Targets.{targetsFit, broken6}
 use Rattle.rules.proofs.Numbers.{node-in}
-use Rattle.rules.proofs.Rows.{nodes-fit, leaf-owned, leaf-fits}
+use Rattle.rules.proofs.Rows.{leaf-owned, leaf-fits}
 use Rattle.records.specs.Frame.{Framed}
+use Rattle.records.specs.Fits.{nodesFit}
 use Rattle.reading.specs.Code.{codeAt}
 use Rattle.surveying.specs.Leaves.{nodePasses}
 use Rattle.records.proofs.Frame.{row-place}
@@ -62,11 +63,12 @@ kind-counts x noNode e h = absurd h
 abbrev nodeNo : Bytes → ℕ → Node
 nodeNo file i = nodeAt file (nodePlace i)
 
-pub node-counts : (file : Bytes) → broken4 file ≡ false → (i : ℕ) → i < nodeCount file → Counts (nodeNo file i)
-node-counts file four i h =
+node-counts : (file : Bytes) → nodesFit file ≡ true → (i : ℕ) → i < nodeCount file → Counts (nodeNo file i)
+unfolding nodesFit
+node-counts file fits i h =
     subst (λ (x : Node). Counts x) (node-of file i h)
     (kind-counts (getD (nodes file) i noN) (nodeKind (getD (nodes file) i noN .kind)) refl
-    (every-at (λ x. nodeFits (nodeKind (x .kind)) x) (nodes file) noN (nodes-fit file four) i (omega (arith, nodes-length file))))
+    (every-at (λ x. nodeFits (nodeKind (x .kind)) x) (nodes file) noN (of-yes _ fits) i (omega (arith, nodes-length file))))
 
 places-length : (file : Bytes) → length (places file) ≡ nodeCount file
 unfolding places
@@ -75,15 +77,17 @@ places-length file = placed-length (nodes file) (map stepOf (rows file)) ∙ nod
 -- `count` as the code reads it of node i, whose record begins at `place`
 pub record Counted (file : Bytes) (i count : ℕ) : Type 0 where
   pub few : count ≤ 64
+  pub own : count ≡ owned (nodeNo file i)
   pub next : firstStep file (i + 1) ≡ firstStep file i + count
 
-pub counted : {file : Bytes} {n m : ℕ} → Framed file n m → broken4 file ≡ false → (i place count : ℕ) → i < n → place ≡ nodePlace i
+pub counted : {file : Bytes} {n m : ℕ} → Framed file n m → nodesFit file ≡ true → (i place count : ℕ) → i < n → place ≡ nodePlace i
     → count ≡ nodeAt file place .count → Counted file i count
-counted {file} f four i place count h p k =
+counted {file} f fits i place count h p k =
     let l : i < nodeCount file = omega arith in
-    let x : Counts (nodeNo file i) = node-counts file four i l in
+    let x : Counts (nodeNo file i) = node-counts file fits i l in
     let e : count ≡ nodeNo file i .count = k ∙ ap (λ (q : ℕ). nodeAt file q .count) p in
-    record { few = omega arith; next = first-next file i l ∙ ap (λ (c : ℕ). firstStep file i + c) (x .own ∙ sym e) }
+    let o : count ≡ owned (nodeNo file i) = e ∙ sym (x .own) in
+    record { few = omega arith; own = o; next = first-next file i l ∙ ap (λ (c : ℕ). firstStep file i + c) (sym o) }
 
 -- ---- a test of one node, by its kind
 
@@ -131,7 +135,7 @@ pub leaves-over : (g : ActionSet → List Step → Bool) (file : Bytes) (i : ℕ
 unfolding leavesFrom everyLeaf
 leaves-over g file i h = ap (λ (ps : List Place). everyLeaf g ps) (drop-of-length-le (places file) {i = i} (omega (arith, places-length file)))
 
-module _ {file : Bytes} {n m : ℕ} (f : Framed file n m) (four : broken4 file ≡ false) (all : summed (map owned (nodes file)) ≡ m) where
+module _ {file : Bytes} {n m : ℕ} (f : Framed file n m) (fits : nodesFit file ≡ true) (all : summed (map owned (nodes file)) ≡ m) where
   -- the steps of node i
   abbrev stepsOf : ℕ → List Step
   stepsOf i = codeAt file (6 + 16 * n + 12 * firstStep file i) (nodeNo file i .count)
@@ -139,7 +143,7 @@ module _ {file : Bytes} {n m : ℕ} (f : Framed file n m) (four : broken4 file �
   own-steps : (i : ℕ) → i < n → placeIn (places file) i .steps ≡ stepsOf i
   own-steps i h =
       node-code file (all ∙ f .steps) i (omega arith)
-      ∙ λ j. codeAt file (row-place f (firstStep file i) j) (node-counts file four i (omega arith) .own j)
+      ∙ λ j. codeAt file (row-place f (firstStep file i) j) (node-counts file fits i (omega arith) .own j)
 
   leaves-rest : (g : ActionSet → List Step → Bool) (i : ℕ) → i < n → leavesFrom g file i ≡ (nodePasses g (nodeNo file i) (stepsOf i) && leavesFrom g file (i + 1))
   unfolding leavesFrom
@@ -148,6 +152,10 @@ module _ {file : Bytes} {n m : ℕ} (f : Framed file n m) (four : broken4 file �
       ap (λ (ps : List Place). everyLeaf g ps) (drop-cons (places file) i noPlace (omega (arith, places-length file)))
       ∙ head-leaf g (placeIn (places file) i) (drop (suc i) (places file))
       ∙ λ j. nodePasses g (node-in file i (omega arith) j) (own-steps i h j) && everyLeaf g (drop (z j) (places file))
+
+  -- no node's steps go past the last
+  pub steps-in : (i : ℕ) → i < n → firstStep file (i + 1) ≤ m
+  steps-in i h = omega (arith, first-in file i (omega arith), first-next file i (omega arith))
 
   -- the same in the code's terms: node i's record begins at `place`, its steps at `at`, and `count` is its count
   module _ (i place at count : ℕ) (h : i < n) (p : place ≡ nodePlace i) (a : at ≡ 6 + 16 * n + 12 * firstStep file i) (k : count ≡ nodeAt file place .count) where
@@ -162,7 +170,7 @@ module _ {file : Bytes} {n m : ℕ} (f : Framed file n m) (four : broken4 file �
     rest-here g = leaves-rest g i h ∙ λ j. nodePasses g (nodeAt file (sym p j)) (sym code-here j) && leavesFrom g file (i + 1)
 
     pub inside-here : at + 12 * count ≤ length file
-    inside-here = omega (arith, first-in file i (omega arith), counted f four i place count h p k .next, first-next file i (omega arith))
+    inside-here = omega (arith, steps-in i h, counted f fits i place count h p k .next)
 
 -- ---- rule 6
 

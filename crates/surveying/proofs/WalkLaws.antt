@@ -1,29 +1,33 @@
 -- The walks through the leaves, node after node: what is found so far, and what is left. Assumes nothing.
-use Prim.Native.Nat.{ℕ, _+_, _*_, _≤_, _<_}
+use Prim.Native.Nat.{ℕ, _+_, _*_, _-_, _≤_, _<_}
 use native.Mathlib.Omega.{arith}
 use mathlib.Core.Path.{_≡_, refl, sym, ap, _∙_, subst}
 use mathlib.Core.Bool.{Bool, true, false, _&&_, not}
 use mathlib.Core.List.{List, [], _∷_, map}
-use lib.Dec.{T, eqb}
+use lib.Dec.{eqb}
 use lib.ListN.{length, getD, set, length-set}
 use lib.Seq.{getD-set-same, getD-set-other}
 use borrow.Author.Tests.{eqb-true, eqb-false}
 use types.Run.{OneOf, miss}
 use denote.Enum.Declared.{tagOf}
 use Rattle.actions.specs.Sets.{ActionSet}
-use Rattle.actions.proofs.Tests.{yes-of, of-yes, true-not-false, and-assoc, and-true}
+use Rattle.actions.proofs.Tests.{true-not-false, and-assoc, and-true}
 use Rattle.policy.specs.Bytes.{Bytes}
-use Rattle.policy.specs.Lists.{summed}
-use Rattle.policy.specs.Records.{mostNodes, Node, nodeAt, nodePlace, nodeCount, nodes}
+use Rattle.policy.specs.Lists.{summed, every}
+use Rattle.policy.specs.Records.{mostNodes, Node, nodeAt, nodePlace, nodeCount, nodes, rows}
 use Rattle.policy.specs.Steps.{Step}
 use Rattle.policy.specs.Tree.{aLeaf, aTrivial, anUnsatisfiable, noNode, NodeKind, nodeKind, owned, firstStep, noPlace, places}
+use Rattle.policy.proofs.NodeLaws.{first-none, first-over}
 use Rattle.reading.specs.Kinds.{kindOf}
 use Rattle.reading.specs.Code.{codeAt}
 use Rattle.reading.specs.declared.Kind.{Kind}
 use Rattle.reading.specs.declared.Kind.the-variants.{Leaf, Trivial, Unsatisfiable, Pair, Unknown}
 use Rattle.reading.proofs.Kind.{the-type}
 use Rattle.records.specs.Frame.{Framed}
-use Rattle.rules.specs.Layout.{broken4}
+use Rattle.records.specs.Fits.{nodesFit, rowsFit, ruleOr4}
+use Rattle.records.proofs.Frame.{all-rows}
+use Rattle.records.proofs.Rows.{rows-none, rows-split}
+use Rattle.rules.specs.Layout.{rowFits}
 use Rattle.rules.specs.Leaves.{everyLeaf}
 use Rattle.rules.specs.Targets.{targetsFit}
 use Rattle.rules.specs.Modes.{broken7}
@@ -32,48 +36,60 @@ use Rattle.rules.specs.Interference.{leafEffects}
 use Rattle.rules.proofs.Numbers.{node-read}
 use Rattle.walking.specs.declared.Walked.{Walked}
 use Rattle.walking.specs.Leaf.{LeafFound}
-use Rattle.walking.proofs.Found.{found-modes, found-taken, found-effects, found-inserts}
-use Rattle.surveying.specs.Leaves.{nodePasses, modesOf, insertsIn, NodeFound, Held, lowest, LeavesFound}
-use Rattle.surveying.proofs.LeafLaws.{answerOf, passes-by, leavesFrom, leaves-whole, leaves-over, rest-here, code-is}
+use Rattle.surveying.specs.Leaves.{nodePasses, modesOf, insertsIn, NodeKept, NodeFound, Held, lowest, LeavesFound}
+use Rattle.surveying.proofs.LeafLaws.{counted, answerOf, passes-by, leavesFrom, leaves-whole, leaves-over, steps-in, rest-here, code-is}
 
 -- ---- one node
 
-module _ (w : Walked) (x : Node) (code : List Step) where
-  pub leaf-found : (s : ActionSet) → aLeaf ≡ nodeKind (x .kind) → s ≡ x .set → LeafFound w s code → NodeFound w x code
+module _ (file : Bytes) (at count : ℕ) (x : Node) (w : Walked) where
+  abbrev code : List Step
+  code = codeAt file at count
+
+  pub leaf-found : (s : ActionSet) → aLeaf ≡ nodeKind (x .kind) → s ≡ x .set → LeafFound w s (rowsFit file at count) code
+      → NodeFound w x (rowsFit file at count) code
   unfolding answerOf modesOf insertsIn
   leaf-found s k e f =
-      let found = subst (λ (r : ActionSet). LeafFound w r code) e f in
-      let six : targetsFit (x .set) code ≡ nodePasses targetsFit x code = passes-by targetsFit x code aLeaf k in
-      let back : T (nodePasses targetsFit x code) → targetsFit (x .set) code ≡ true = λ t. six ∙ yes-of _ t in
+      let found = subst (λ (r : ActionSet). LeafFound w r (rowsFit file at count) code) e f in
+      let six : nodePasses targetsFit x code ≡ targetsFit (x .set) code = sym (passes-by targetsFit x code aLeaf k) in
       record {
-        targets = found .targets ∙ six;
-        modes = λ t. found-modes _ _ _ found (back t) ∙ passes-by modesOf x code aLeaf k;
-        taken = λ t. found-taken _ _ _ found (back t) ∙ passes-by allTaken x code aLeaf k;
-        effects = λ l t. found-effects _ _ _ found (back t);
-        inserts = λ l t. found-inserts _ _ _ found (back t);
+        fields-broken = found .fields-broken;
+        targets-broken = λ g t. six ∙ found .targets-broken g t;
+        kept = λ g t. let kept = found .kept g t in record {
+          rows = kept .rows;
+          targets = six ∙ kept .targets;
+          modes = kept .modes ∙ passes-by modesOf x code aLeaf k;
+          taken = kept .taken ∙ passes-by allTaken x code aLeaf k;
+          effects = λ l. kept .effects;
+          inserts = λ l. kept .inserts;
+        };
       }
 
--- a node that is no leaf
-pub other-found : (x : Node) (code : List Step) (q : Kind) (w : Walked) → w .targets ≡ true → w .modes ≡ true → w .taken ≡ true
-    → kindOf q ≡ nodeKind (x .kind) → OneOf (1 ∷ 2 ∷ 3 ∷ 4 ∷ []) (tagOf the-type q) → NodeFound w x code
-unfolding answerOf kindOf
-other-found x code q w good six seven = go q
-  where
-    found : (j : NodeKind) → ((b : Bool) → answerOf j b ≡ true) → j ≡ nodeKind (x .kind) → NodeFound w x code
-    found j a u = record {
-      targets = good ∙ sym (a (targetsFit (x .set) code)) ∙ passes-by targetsFit x code j u;
-      modes = λ t. six ∙ sym (a (modesOf (x .set) code)) ∙ passes-by modesOf x code j u;
-      taken = λ t. seven ∙ sym (a (allTaken (x .set) code)) ∙ passes-by allTaken x code j u;
-      effects = λ l t. true-not-false (a false) (ap (λ (k : NodeKind). answerOf k false) (u ∙ l));
-      inserts = λ l t. true-not-false (a false) (ap (λ (k : NodeKind). answerOf k false) (u ∙ l));
-    }
+  -- a node that is no leaf, and so owns no step
+  pub other-found : (q : Kind) → w .fields ≡ true → w .targets ≡ true → w .modes ≡ true → w .taken ≡ true → count ≡ owned x
+      → kindOf q ≡ nodeKind (x .kind) → OneOf (1 ∷ 2 ∷ 3 ∷ 4 ∷ []) (tagOf the-type q) → NodeFound w x (rowsFit file at count) code
+  unfolding answerOf kindOf owned
+  other-found q four six seven eight own = go q
+    where
+      found : (j : NodeKind) → ((b : Bool) → answerOf j b ≡ true) → owned x ≡ 0 → j ≡ nodeKind (x .kind) → NodeFound w x (rowsFit file at count) code
+      found j a none u = record {
+        fields-broken = λ g. true-not-false four g;
+        targets-broken = λ g t. true-not-false six t;
+        kept = λ g t. record {
+          rows = ap (rowsFit file at) (own ∙ none) ∙ rows-none file at;
+          targets = sym (passes-by targetsFit x code j u) ∙ a (targetsFit (x .set) code);
+          modes = seven ∙ sym (a (modesOf (x .set) code)) ∙ passes-by modesOf x code j u;
+          taken = eight ∙ sym (a (allTaken (x .set) code)) ∙ passes-by allTaken x code j u;
+          effects = λ l. true-not-false (a false) (ap (λ (k : NodeKind). answerOf k false) (u ∙ l));
+          inserts = λ l. true-not-false (a false) (ap (λ (k : NodeKind). answerOf k false) (u ∙ l));
+        };
+      }
 
-    go : (q : Kind) → kindOf q ≡ nodeKind (x .kind) → OneOf (1 ∷ 2 ∷ 3 ∷ 4 ∷ []) (tagOf the-type q) → NodeFound w x code
-    go Leaf u o = absurd (miss (1 ∷ 2 ∷ 3 ∷ 4 ∷ []) 0 tt o)
-    go Trivial u o = found aTrivial (λ b. refl) u
-    go Unsatisfiable u o = found anUnsatisfiable (λ b. refl) u
-    go (Pair v j) u o = found _ (λ b. refl) u
-    go Unknown u o = found noNode (λ b. refl) u
+      go : (q : Kind) → kindOf q ≡ nodeKind (x .kind) → OneOf (1 ∷ 2 ∷ 3 ∷ 4 ∷ []) (tagOf the-type q) → NodeFound w x (rowsFit file at count) code
+      go Leaf u o = absurd (miss (1 ∷ 2 ∷ 3 ∷ 4 ∷ []) 0 tt o)
+      go Trivial u o = found aTrivial (λ b. refl) (rw (sym u, owned)) u
+      go Unsatisfiable u o = found anUnsatisfiable (λ b. refl) (rw (sym u, owned)) u
+      go (Pair v j) u o = found _ (λ b. refl) (rw (sym u, owned)) u
+      go Unknown u o = found noNode (λ b. refl) (rw (sym u, owned)) u
 
 -- ---- node after node
 
@@ -94,50 +110,64 @@ held-more f file i v xs few old new = record { room = length-set xs i v ∙ old 
         let z : k ≡ i → ⊥ = eqb-false k i e in
         getD-set-other xs i k v 0 z ∙ old .at k (omega (arith, z)) l
 
-module _ {file : Bytes} {n m : ℕ} (f : Framed file n m) (four : broken4 file ≡ false) (all : summed (map owned (nodes file)) ≡ m) where
-  abbrev Six : Type 0
-  Six = T (everyLeaf targetsFit (places file))
-
+module _ {file : Bytes} {n m : ℕ} (f : Framed file n m) (fits : nodesFit file ≡ true) (all : summed (map owned (nodes file)) ≡ m) where
   -- what is found of the nodes before node i, whose steps begin at `at`
   pub record Walking (i at : ℕ) (effs ins : List ℕ) (modes taken : Bool) : Type 0 where
     pub below : i ≤ n
     pub begins : at ≡ 6 + 16 * n + 12 * firstStep file i
     pub room : (length effs ≡ mostNodes) × (length ins ≡ mostNodes)
-    pub fit : everyLeaf targetsFit (places file) ≡ leavesFrom targetsFit file i
-    pub sevens : Six → everyLeaf modesOf (places file) ≡ (modes && leavesFrom modesOf file i)
-    pub eights : Six → everyLeaf allTaken (places file) ≡ (taken && leavesFrom allTaken file i)
-    pub effects : Six → Held leafEffects file i effs
-    pub inserts : Six → Held insertsIn file i ins
+    pub fours : every rowFits (rows file) ≡ rowsFit file at (m - firstStep file i)
+    pub sixes : everyLeaf targetsFit (places file) ≡ leavesFrom targetsFit file i
+    pub sevens : everyLeaf modesOf (places file) ≡ (modes && leavesFrom modesOf file i)
+    pub eights : everyLeaf allTaken (places file) ≡ (taken && leavesFrom allTaken file i)
+    pub effects : Held leafEffects file i effs
+    pub inserts : Held insertsIn file i ins
 
   none-held : (g : ActionSet → List Step → ℕ) (xs : List ℕ) → length xs ≡ mostNodes → Held g file 0 xs
   none-held g xs l = record { room = l; at = λ k h. absurd (omega arith) }
 
-  pub walk-starts : (at : ℕ) (effs ins : List ℕ) → at ≡ 6 + 16 * n + 12 * firstStep file 0 → length effs ≡ mostNodes → length ins ≡ mostNodes
+  pub walk-starts : (at : ℕ) (effs ins : List ℕ) → at ≡ 6 + 16 * n → length effs ≡ mostNodes → length ins ≡ mostNodes
       → Walking 0 at effs ins true true
-  walk-starts at effs ins e l k = record {
-    below = omega arith;
-    begins = e;
-    room = (l, k);
-    fit = leaves-whole targetsFit file;
-    sevens = λ six. leaves-whole modesOf file;
-    eights = λ six. leaves-whole allTaken file;
-    effects = λ six. none-held leafEffects effs l;
-    inserts = λ six. none-held insertsIn ins k;
-  }
+  walk-starts at effs ins e l k =
+      let a : 6 + 16 * n ≡ at = sym e in
+      let c : m ≡ m - firstStep file 0 = omega (arith, first-none file) in
+      record {
+        below = omega arith;
+        begins = omega (arith, first-none file);
+        room = (l, k);
+        fours = all-rows f ∙ λ j. rowsFit file (a j) (c j);
+        sixes = leaves-whole targetsFit file;
+        sevens = leaves-whole modesOf file;
+        eights = leaves-whole allTaken file;
+        effects = none-held leafEffects effs l;
+        inserts = none-held insertsIn ins k;
+      }
 
   -- the walk through node i, whose record begins at `place`, has given w
   module _ (i at : ℕ) (effs ins : List ℕ) (modes taken : Bool) (s : Walking i at effs ins modes taken) (place count : ℕ) (h : i < n)
-      (p : place ≡ nodePlace i) (k : count ≡ nodeAt file place .count) (w : Walked) (found : NodeFound w (nodeAt file place) (codeAt file at count)) where
+      (p : place ≡ nodePlace i) (k : count ≡ nodeAt file place .count) (w : Walked)
+      (found : NodeFound w (nodeAt file place) (rowsFit file at count) (codeAt file at count)) where
+    next : firstStep file (i + 1) ≡ firstStep file i + count
+    next = counted f fits i place count h p k .next
+
     rest : (g : ActionSet → List Step → Bool)
         → leavesFrom g file i ≡ (nodePasses g (nodeAt file place) (codeAt file at count) && leavesFrom g file (i + 1))
-    rest = rest-here f four all i place at count h p (s .begins) k
+    rest = rest-here f fits all i place at count h p (s .begins) k
 
-    pub walk-stops : w .targets ≡ false → everyLeaf targetsFit (places file) ≡ false
-    walk-stops bad = s .fit ∙ rest targetsFit ∙ ap (λ (b : Bool). b && leavesFrom targetsFit file (i + 1)) (sym (found .targets) ∙ bad)
+    rows-rest : every rowFits (rows file) ≡ (rowsFit file at count && rowsFit file (at + 12 * count) (m - firstStep file (i + 1)))
+    rows-rest =
+        let z : m - firstStep file i ≡ count + (m - firstStep file (i + 1)) = omega (arith, next, steps-in f fits all i h) in
+        s .fours ∙ ap (rowsFit file at) z ∙ rows-split file at count (m - firstStep file (i + 1))
 
-    module _ (good : w .targets ≡ true) (next : firstStep file (i + 1) ≡ firstStep file i + count) where
-      here : T (nodePasses targetsFit (nodeAt file place) (codeAt file at count))
-      here = of-yes _ (sym (found .targets) ∙ good)
+    pub stops-at-4 : w .fields ≡ false → every rowFits (rows file) ≡ false
+    stops-at-4 bad = rows-rest ∙ ap (λ (b : Bool). b && rowsFit file (at + 12 * count) (m - firstStep file (i + 1))) (found .fields-broken bad)
+
+    pub stops-at-6 : w .fields ≡ true → w .targets ≡ false → everyLeaf targetsFit (places file) ≡ false
+    stops-at-6 good bad = s .sixes ∙ rest targetsFit ∙ ap (λ (b : Bool). b && leavesFrom targetsFit file (i + 1)) (found .targets-broken good bad)
+
+    module _ (four : w .fields ≡ true) (six : w .targets ≡ true) where
+      kept : NodeKept w (nodeAt file place) (rowsFit file at count) (codeAt file at count)
+      kept = found .kept four six
 
       node-is : getD (places file) i noPlace .node ≡ nodeAt file place
       node-is = node-read file (omega (arith, f .nodes)) p
@@ -147,75 +177,90 @@ module _ {file : Bytes} {n m : ℕ} (f : Framed file n m) (four : broken4 file �
 
       of-place : (g : ActionSet → List Step → ℕ)
           → g (nodeAt file place .set) (codeAt file at count) ≡ g (getD (places file) i noPlace .node .set) (getD (places file) i noPlace .steps)
-      of-place g = let e = sym node-is in let c = code-is f four all i place at count h p (s .begins) k in λ j. g (e j .set) (c j)
+      of-place g = let e = sym node-is in let c = code-is f fits all i place at count h p (s .begins) k in λ j. g (e j .set) (c j)
 
       pub walk-goes : Walking (i + 1) (at + 12 * count) (set effs i (w .effects .bits)) (set ins i (w .inserts)) (modes && w .modes) (taken && w .taken)
       walk-goes = record {
         below = omega arith;
         begins = omega (arith, s .begins, next);
         room = (length-set effs i (w .effects .bits) ∙ s .room .0, length-set ins i (w .inserts) ∙ s .room .1);
-        fit = s .fit ∙ rest targetsFit ∙ ap (λ (b : Bool). b && leavesFrom targetsFit file (i + 1)) (sym (found .targets) ∙ good);
-        sevens = λ six. s .sevens six ∙ ap (λ (b : Bool). modes && b) (rest modesOf ∙ ap (λ (b : Bool). b && leavesFrom modesOf file (i + 1)) (sym (found .modes here)))
+        fours = rows-rest ∙ ap (λ (b : Bool). b && rowsFit file (at + 12 * count) (m - firstStep file (i + 1))) (kept .rows);
+        sixes = s .sixes ∙ rest targetsFit ∙ ap (λ (b : Bool). b && leavesFrom targetsFit file (i + 1)) (kept .targets);
+        sevens = s .sevens ∙ ap (λ (b : Bool). modes && b) (rest modesOf ∙ ap (λ (b : Bool). b && leavesFrom modesOf file (i + 1)) (sym (kept .modes)))
             ∙ and-assoc modes (w .modes) (leavesFrom modesOf file (i + 1));
-        eights = λ six. s .eights six ∙ ap (λ (b : Bool). taken && b) (rest allTaken ∙ ap (λ (b : Bool). b && leavesFrom allTaken file (i + 1)) (sym (found .taken here)))
+        eights = s .eights ∙ ap (λ (b : Bool). taken && b) (rest allTaken ∙ ap (λ (b : Bool). b && leavesFrom allTaken file (i + 1)) (sym (kept .taken)))
             ∙ and-assoc taken (w .taken) (leavesFrom allTaken file (i + 1));
-        effects = λ six. held-more leafEffects file i (w .effects .bits) effs (omega (arith, f .nodes)) (s .effects six) (λ l. found .effects (leaf-here l) here ∙ of-place leafEffects);
-        inserts = λ six. held-more insertsIn file i (w .inserts) ins (omega (arith, f .nodes)) (s .inserts six) (λ l. found .inserts (leaf-here l) here ∙ of-place insertsIn);
+        effects = held-more leafEffects file i (w .effects .bits) effs (omega (arith, f .nodes)) (s .effects) (λ l. kept .effects (leaf-here l) ∙ of-place leafEffects);
+        inserts = held-more insertsIn file i (w .inserts) ins (omega (arith, f .nodes)) (s .inserts) (λ l. kept .inserts (leaf-here l) ∙ of-place insertsIn);
       }
 
   -- ---- the end
 
-  pub found-six : (effs ins : List ℕ) → everyLeaf targetsFit (places file) ≡ false → LeavesFound file n 6 effs ins
-  unfolding lowest
-  found-six effs ins bad = record {
-    is = sym (ap (λ (b : Bool). lowest (not b) (broken7 file) (broken8 file)) bad);
-    effects = λ e. absurd (omega arith);
-    inserts = λ e. absurd (omega arith);
-  }
+  module _ (effs ins : List ℕ) where
+    pub found-four : every rowFits (rows file) ≡ false → LeavesFound file n 4 effs ins
+    unfolding lowest
+    found-four bad = record {
+      is = sym (ap (λ (b : Bool). lowest (not b) (not (everyLeaf targetsFit (places file))) (broken7 file) (broken8 file)) bad);
+      effects = λ e. absurd (omega arith);
+      inserts = λ e. absurd (omega arith);
+    }
+
+    -- a leaf breaks rule 6, and the step records are tested, those of the leaves after it too
+    pub found-six : (rule : ℕ) → rule ≡ ruleOr4 (every rowFits (rows file)) 6 → everyLeaf targetsFit (places file) ≡ false → LeavesFound file n rule effs ins
+    unfolding lowest ruleOr4
+    found-six rule e bad =
+        record {
+          is = e ∙ six (every rowFits (rows file)) ∙ sym (ap (λ (b : Bool). lowest (not (every rowFits (rows file))) (not b) (broken7 file) (broken8 file)) bad);
+          effects = λ z. absurd (some (every rowFits (rows file)) (sym e ∙ z));
+          inserts = λ z. absurd (some (every rowFits (rows file)) (sym e ∙ z));
+        }
+      where
+        six : (b : Bool) → ruleOr4 b 6 ≡ lowest (not b) true (broken7 file) (broken8 file)
+        six true = refl
+        six false = refl
+
+        some : (b : Bool) → ruleOr4 b 6 ≡ 0 → ⊥
+        some true z = omega arith
+        some false z = omega arith
 
   module _ (i at : ℕ) (effs ins : List ℕ) (modes taken : Bool) (s : Walking i at effs ins modes taken) (h : n ≤ i) where
     over : nodeCount file ≤ i
     over = omega (arith, f .nodes)
 
-    six-is : everyLeaf targetsFit (places file) ≡ true
-    six-is = s .fit ∙ leaves-over targetsFit file i over
+    four-is : every rowFits (rows file) ≡ true
+    four-is = let z : m - firstStep file i ≡ 0 = omega (arith, first-over file i over) in s .fours ∙ ap (rowsFit file at) z ∙ rows-none file at
 
-    six : Six
-    six = of-yes _ six-is
+    six-is : everyLeaf targetsFit (places file) ≡ true
+    six-is = s .sixes ∙ leaves-over targetsFit file i over
 
     seven-is : broken7 file ≡ not modes
     unfolding broken7 modesOf
-    seven-is = ap not (s .sevens six ∙ ap (λ (b : Bool). modes && b) (leaves-over modesOf file i over) ∙ and-true modes)
+    seven-is = ap not (s .sevens ∙ ap (λ (b : Bool). modes && b) (leaves-over modesOf file i over) ∙ and-true modes)
 
     eight-is : broken8 file ≡ not taken
     unfolding broken8
-    eight-is = ap not (s .eights six ∙ ap (λ (b : Bool). taken && b) (leaves-over allTaken file i over) ∙ and-true taken)
+    eight-is = ap not (s .eights ∙ ap (λ (b : Bool). taken && b) (leaves-over allTaken file i over) ∙ and-true taken)
 
-    by : lowest (not true) (not modes) (not taken) ≡ lowest (not (everyLeaf targetsFit (places file))) (broken7 file) (broken8 file)
-    by = let a = sym six-is in let b = sym seven-is in let c = sym eight-is in λ j. lowest (not (a j)) (b j) (c j)
+    by : (modes′ taken′ : Bool) → modes ≡ modes′ → taken ≡ taken′
+        → lowest false false (not modes′) (not taken′) ≡ lowest (not (every rowFits (rows file))) (not (everyLeaf targetsFit (places file))) (broken7 file) (broken8 file)
+    by modes′ taken′ e g =
+        let a = four-is in let b = six-is in let c = seven-is ∙ ap not e in let d = eight-is ∙ ap not g in
+        sym (λ j. lowest (not (a j)) (not (b j)) (c j) (d j))
 
     pub found-seven : modes ≡ false → LeavesFound file n 7 effs ins
     unfolding lowest
-    found-seven e = record {
-      is = ap (λ (b : Bool). lowest false (not b) (not taken)) (sym e) ∙ by;
-      effects = λ z. absurd (omega arith);
-      inserts = λ z. absurd (omega arith);
-    }
+    found-seven e = record { is = by false taken e refl; effects = λ z. absurd (omega arith); inserts = λ z. absurd (omega arith) }
 
     pub found-eight : modes ≡ true → taken ≡ false → LeavesFound file n 8 effs ins
     unfolding lowest
-    found-eight e g = record {
-      is = (let a = sym e in let b = sym g in λ j. lowest false (not (a j)) (not (b j))) ∙ by;
-      effects = λ z. absurd (omega arith);
-      inserts = λ z. absurd (omega arith);
-    }
+    found-eight e g = record { is = by true false e g; effects = λ z. absurd (omega arith); inserts = λ z. absurd (omega arith) }
 
     pub found-none : modes ≡ true → taken ≡ true → LeavesFound file n 0 effs ins
     unfolding lowest
     found-none e g =
         let z : i ≡ n = omega (arith, s .below) in
         record {
-          is = (let a = sym e in let b = sym g in λ j. lowest false (not (a j)) (not (b j))) ∙ by;
-          effects = λ o. subst (λ (j : ℕ). Held leafEffects file j effs) z (s .effects six);
-          inserts = λ o. subst (λ (j : ℕ). Held insertsIn file j ins) z (s .inserts six);
+          is = by true true e g;
+          effects = λ o. subst (λ (j : ℕ). Held leafEffects file j effs) z (s .effects);
+          inserts = λ o. subst (λ (j : ℕ). Held insertsIn file j ins) z (s .inserts);
         }

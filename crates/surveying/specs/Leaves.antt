@@ -3,13 +3,14 @@ use Prim.Native.Nat.{ℕ, _<_}
 use mathlib.Core.Path.{_≡_}
 use mathlib.Core.Bool.{Bool, true, false, not}
 use mathlib.Core.List.{List}
-use lib.Dec.{T}
 use lib.ListN.{length, getD}
 use Rattle.actions.specs.Sets.{ActionSet}
 use Rattle.policy.specs.Bytes.{Bytes}
-use Rattle.policy.specs.Records.{mostNodes, Node}
+use Rattle.policy.specs.Lists.{every}
+use Rattle.policy.specs.Records.{mostNodes, Node, rows}
 use Rattle.policy.specs.Steps.{Step}
 use Rattle.policy.specs.Tree.{aLeaf, aTrivial, anUnsatisfiable, aPair, noNode, nodeKind, noPlace, places}
+use Rattle.rules.specs.Layout.{rowFits}
 use Rattle.rules.specs.Leaves.{everyLeaf}
 use Rattle.rules.specs.Targets.{targetsFit}
 use Rattle.rules.specs.Modes.{modesFit, broken7}
@@ -36,13 +37,20 @@ modesOf r code = modesFit code
 unfoldable pub insertsIn : ActionSet → List Step → ℕ
 insertsIn r code = insCount code
 
--- of a node: rule 6, and where that holds rules 7 and 8; of a leaf also its effect set and the number of its ins steps
-pub record NodeFound (w : Walked) (x : Node) (code : List Step) : Type 0 where
-  pub targets : w .targets ≡ nodePasses targetsFit x code
-  pub modes : T (nodePasses targetsFit x code) → w .modes ≡ nodePasses modesOf x code
-  pub taken : T (nodePasses targetsFit x code) → w .taken ≡ nodePasses allTaken x code
-  pub effects : nodeKind (x .kind) ≡ aLeaf → T (nodePasses targetsFit x code) → w .effects .bits ≡ leafEffects (x .set) code
-  pub inserts : nodeKind (x .kind) ≡ aLeaf → T (nodePasses targetsFit x code) → w .inserts ≡ insertsIn (x .set) code
+-- of a node that keeps rules 4 and 6: rules 7 and 8; of a leaf also its effect set and the number of its ins steps
+pub record NodeKept (w : Walked) (x : Node) (rows-fit : Bool) (code : List Step) : Type 0 where
+  pub rows : rows-fit ≡ true
+  pub targets : nodePasses targetsFit x code ≡ true
+  pub modes : w .modes ≡ nodePasses modesOf x code
+  pub taken : w .taken ≡ nodePasses allTaken x code
+  pub effects : nodeKind (x .kind) ≡ aLeaf → w .effects .bits ≡ leafEffects (x .set) code
+  pub inserts : nodeKind (x .kind) ≡ aLeaf → w .inserts ≡ insertsIn (x .set) code
+
+-- of a node: rule 4 of its step records, or rule 6, is told broken, or both are kept
+pub record NodeFound (w : Walked) (x : Node) (rows-fit : Bool) (code : List Step) : Type 0 where
+  pub fields-broken : w .fields ≡ false → rows-fit ≡ false
+  pub targets-broken : w .fields ≡ true → w .targets ≡ false → nodePasses targetsFit x code ≡ false
+  pub kept : w .fields ≡ true → w .targets ≡ true → NodeKept w x rows-fit code
 
 -- a list with room for every node, which holds f of each leaf before node i
 pub record Held (f : ActionSet → List Step → ℕ) (file : Bytes) (i : ℕ) (xs : List ℕ) : Type 0 where
@@ -50,15 +58,16 @@ pub record Held (f : ActionSet → List Step → ℕ) (file : Bytes) (i : ℕ) (
   pub at : (k : ℕ) → k < i → nodeKind (getD (places file) k noPlace .node .kind) ≡ aLeaf
       → getD xs k 0 ≡ f (getD (places file) k noPlace .node .set) (getD (places file) k noPlace .steps)
 
--- the lowest of rules 6, 7 and 8 that is broken, and 0 if none is
-unfoldable pub lowest : Bool → Bool → Bool → ℕ
-lowest true seven eight = 6
-lowest false true eight = 7
-lowest false false true = 8
-lowest false false false = 0
+-- the lowest of rules 4, 6, 7 and 8 that is broken, and 0 if none is
+unfoldable pub lowest : Bool → Bool → Bool → Bool → ℕ
+lowest true six seven eight = 4
+lowest false true seven eight = 6
+lowest false false true eight = 7
+lowest false false false true = 8
+lowest false false false false = 0
 
--- of all leaves: the lowest rule that one of them breaks, and where there is none, what is held of each
+-- of all leaves: the lowest rule that one of them or a step record breaks, and where there is none, what is held of each
 pub record LeavesFound (file : Bytes) (n rule : ℕ) (effs ins : List ℕ) : Type 0 where
-  pub is : rule ≡ lowest (not (everyLeaf targetsFit (places file))) (broken7 file) (broken8 file)
+  pub is : rule ≡ lowest (not (every rowFits (rows file))) (not (everyLeaf targetsFit (places file))) (broken7 file) (broken8 file)
   pub effects : rule ≡ 0 → Held leafEffects file n effs
   pub inserts : rule ≡ 0 → Held insertsIn file n ins

@@ -1,6 +1,6 @@
 // The leaves in node order: that they own all steps, and the walk through each of them.
 ghost use mathlib.Core.Path.{_≡_};
-ghost use mathlib.Core.Bool.{false};
+ghost use mathlib.Core.Bool.{true};
 ghost use mathlib.Core.List.{map};
 ghost use Prim.Native.Nat.{_+_, _*_, _≤_};
 ghost use lib.Dec.{eqb};
@@ -8,8 +8,8 @@ ghost use lib.ListN.{length};
 ghost use Rattle.policy.specs.Lists.{summed};
 ghost use Rattle.policy.specs.Records.{mostNodes, nodeSize, nodeAt, nodes};
 ghost use Rattle.policy.specs.Tree.{owned};
-ghost use Rattle.rules.specs.Layout.{broken4};
 ghost use Rattle.records.specs.Frame.{Framed};
+ghost use Rattle.records.specs.Fits.{nodesFit, rowsFit};
 ghost use Rattle.reading.specs.Code.{codeAt};
 ghost use Rattle.surveying.specs.Leaves.{NodeFound, LeavesFound};
 use actions::ActionSet;
@@ -18,13 +18,14 @@ use reading::node_count;
 use reading::node_kind;
 use reading::node_place;
 use reading::node_set;
+use records::rule_or_4;
 use walking::Walked;
 use walking::walk;
 
 // The leaves own all m steps.
 pub fn all_owned(policy: &[u8], n: usize, m: usize) -> bool
     requires { ⌜ Framed (now policy) n m ⌝ }
-    requires { ⌜ broken4 (now policy) ≡ false ⌝ }
+    requires { ⌜ nodesFit (now policy) ≡ true ⌝ }
     ensures { λ r. ⌜ r ≡ eqb (summed (map owned (nodes (now (policy .entry))))) m ⌝ }
 {
     let mut sum: usize = 0;
@@ -36,15 +37,17 @@ pub fn all_owned(policy: &[u8], n: usize, m: usize) -> bool
     sum == m
 }
 
-// The node whose record begins at `place`, with its steps from `at` on: only a leaf is walked through.
+// The node whose record begins at `place`, with the steps that it owns from `at` on: only a leaf is walked through.
 fn walk_node(policy: &[u8], place: usize, at: usize, count: usize) -> Walked
     requires { ⌜ (place + nodeSize ≤ length (now policy)) × (at + 12 * count ≤ length (now policy)) × (count ≤ 64) ⌝ }
-    ensures { λ r. ⌜ NodeFound r (nodeAt (now (policy .entry)) place) (codeAt (now (policy .entry)) at count) ⌝ }
+    requires { ⌜ count ≡ owned (nodeAt (now policy) place) ⌝ }
+    ensures { λ r. ⌜ NodeFound r (nodeAt (now (policy .entry)) place) (rowsFit (now (policy .entry)) at count) (codeAt (now (policy .entry)) at count) ⌝ }
 {
     let kind = node_kind(policy, place);
     match kind {
         Kind::Leaf => walk(policy, at, count, node_set(policy, place)),
         _ => Walked {
+            fields: true,
             targets: true,
             modes: true,
             taken: true,
@@ -54,8 +57,8 @@ fn walk_node(policy: &[u8], place: usize, at: usize, count: usize) -> Walked
     }
 }
 
-// The lowest of rules 6, 7 and 8 that a leaf breaks, and 0 if none is broken: then each leaf's entry has its effect set and its inserts.
-// By rule 4 only a leaf counts steps, so each node's count moves on to the next node's steps.
+// The lowest of rules 4, 6, 7 and 8 that a leaf or its step records break, and 0 if none is broken: then each leaf's entry has its effect
+// set and its inserts. By rule 4 only a leaf counts steps, so each node's count moves on to the next node's steps.
 pub fn walk_leaves(
     policy: &[u8],
     n: usize,
@@ -64,7 +67,7 @@ pub fn walk_leaves(
     inserts: &mut [u32],
 ) -> u8
     requires { ⌜ Framed (now policy) n m ⌝ }
-    requires { ⌜ broken4 (now policy) ≡ false ⌝ }
+    requires { ⌜ nodesFit (now policy) ≡ true ⌝ }
     requires { ⌜ summed (map owned (nodes (now policy))) ≡ m ⌝ }
     requires { ⌜ (length (now effects) ≡ mostNodes) × (length (now inserts) ≡ mostNodes) ⌝ }
     ensures { λ r. ⌜ LeavesFound (now (policy .entry)) n r (now (effects .exit)) (now (inserts .exit)) ⌝ }
@@ -77,8 +80,11 @@ pub fn walk_leaves(
         let place = node_place(i);
         let count = node_count(policy, place) as usize;
         let leaf = walk_node(policy, place, at, count);
+        if !leaf.fields {
+            return 4;
+        }
         if !leaf.targets {
-            return 6;
+            return rule_or_4(policy, n, m, 6);
         }
         modes = modes & leaf.modes;
         taken = taken & leaf.taken;

@@ -1,41 +1,41 @@
--- Rule 6 as the code tests it: a target by its number and kind byte, a step by its targets, and the steps of a leaf one after the other.
+-- Rule 6 as the code tests it: a target by its number and the nexts before it, a step by its targets, and the steps of a leaf one after the other.
 -- Assumes nothing.
 use Prim.Native.Nat.{ℕ, _+_, _-_, _*_, _≤_, _<_}
 use native.Mathlib.Omega.{arith}
 use mathlib.Core.Path.{_≡_, refl, sym, ap, _∙_, subst}
 use mathlib.Core.Bool.{Bool, true, false, _&&_, _||_}
 use mathlib.Core.List.{List, [], _∷_}
-use lib.Dec.{T, eqb, ltb}
+use lib.Dec.{T, ltb}
 use lib.ListN.{length, getD}
 use borrow.Author.Tests.{lt-ltb, le-ltb}
-use Rattle.actions.specs.Sets.{ActionSet, within}
+use Rattle.actions.specs.Sets.{ActionSet, has, within}
 use Rattle.actions.proofs.Tests.{and-intro, and-left, and-right}
-use Rattle.policy.specs.Bytes.{Bytes, number}
+use Rattle.policy.specs.Bytes.{Bytes}
 use Rattle.policy.specs.Records.{rowAt}
 use Rattle.policy.specs.Lists.{listed, every, everyAt}
 use Rattle.policy.specs.Steps.{Step, next, ok, sup, ins, acase, spend, end, halt, stepOf, targets, isNext}
 use Rattle.policy.proofs.ListLaws.{everyAt-rest, everyAt-over}
 use Rattle.rules.specs.Targets.{targetFits, asksWithin, targetsFit}
 use Rattle.reading.specs.Code.{codeAt}
-use Rattle.reading.proofs.CodeLaws.{code-length, code-at, next-kind}
+use Rattle.reading.proofs.CodeLaws.{code-length}
+use Rattle.modes.specs.Marks.{NextsBefore}
 
 -- ---- one target
 
-module _ (file : Bytes) (at count o t : ℕ) where
-  fits-as : (p q : Bool) → ltb t count ≡ p → ltb o t ≡ q → targetFits (codeAt file at count) o t ≡ (p && (q || isNext (getD (codeAt file at count) t halt)))
+module _ (code : List Step) (count o t : ℕ) (size : length code ≡ count) where
+  fits-as : (p q : Bool) → ltb t count ≡ p → ltb o t ≡ q → targetFits code o t ≡ (p && (q || isNext (getD code t halt)))
   unfolding targetFits
-  fits-as p q e f =
-      λ i. (ap (λ (n : ℕ). ltb t n) (code-length file at count) ∙ e) i && (f i || isNext (getD (codeAt file at count) t halt))
+  fits-as p q e f = λ i. (ap (λ (n : ℕ). ltb t n) size ∙ e) i && (f i || isNext (getD code t halt))
 
-  pub target-outside : count ≤ t → false ≡ targetFits (codeAt file at count) o t
+  pub target-outside : count ≤ t → false ≡ targetFits code o t
   target-outside h = sym (fits-as false (ltb o t) (le-ltb t count h) refl)
 
-  pub target-later : t < count → o < t → true ≡ targetFits (codeAt file at count) o t
+  pub target-later : t < count → o < t → true ≡ targetFits code o t
   target-later h l = sym (fits-as true true (lt-ltb t count h) (lt-ltb o t l))
 
-  pub target-back : t < count → t ≤ o → eqb (number file (at + 12 * t) 1) 1 ≡ targetFits (codeAt file at count) o t
-  target-back h l =
-      sym (fits-as true false (lt-ltb t count h) (le-ltb o t l) ∙ ap isNext (code-at file at count t h) ∙ next-kind file (at + 12 * t))
+  pub target-back : (nexts : ActionSet) → NextsBefore (o + 1) nexts code → t < count → t ≤ o → has nexts t ≡ targetFits code o t
+  target-back nexts are h l =
+      are t ∙ ap (λ (b : Bool). b && isNext (getD code t halt)) (lt-ltb t (o + 1) (omega arith)) ∙ sym (fits-as true false (lt-ltb t count h) (le-ltb o t l))
 
 -- ---- one step
 
@@ -58,7 +58,7 @@ module _ (r : ActionSet) (code : List Step) (o : ℕ) where
   last true = refl
   last false = refl
 
-  tested-all : (k : Step) → tested k ≡ stepTest r code o k
+  pub tested-all : (k : Step) → tested k ≡ stepTest r code o k
   unfolding tested asksWithin targets every
   tested-all (next t d) = ap (λ (p : Bool). targetFits code o t && p) (last (targetFits code o d))
   tested-all (ok t) = last (targetFits code o t)
@@ -68,10 +68,6 @@ module _ (r : ActionSet) (code : List Step) (o : ℕ) where
   tested-all (spend n y z) = ap (λ (p : Bool). targetFits code o y && p) (last (targetFits code o z))
   tested-all end = refl
   tested-all halt = refl
-
-  -- b is what was tested of a step j, which is s
-  pub step-tested : (b : Bool) (j s : Step) → b ≡ tested j → j ≡ s → b ≡ stepTest r code o s
-  step-tested b j s e p = e ∙ ap tested p ∙ tested-all s
 
 -- ---- the steps from offset o on
 

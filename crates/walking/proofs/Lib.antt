@@ -1,2 +1,1 @@
 mod LeafWalk
-pub mod Found

@@ -1,23 +1,21 @@
-// One walk through a leaf's steps: rules 6, 7 and 8 of the leaf, its effect set, and how many ins steps it has.
+// One walk through a leaf's steps: rule 4 of their records, rules 6, 7 and 8 of the leaf, its effect set, and how many ins steps it has.
 ghost use mathlib.Core.Path.{_≡_};
-ghost use Prim.Native.Nat.{_+_, _*_, _≤_, _<_};
+ghost use mathlib.Core.Bool.{false};
+ghost use Prim.Native.Nat.{_+_, _*_, _≤_};
 ghost use lib.ListN.{length};
-ghost use Rattle.policy.specs.Records.{rowAt};
-ghost use Rattle.policy.specs.Steps.{stepOf, isIns};
 ghost use Rattle.reading.specs.Code.{codeAt};
-ghost use Rattle.walking.specs.Leaf.{LeafFound};
+ghost use Rattle.records.specs.Fits.{rowsFit};
+ghost use Rattle.walking.specs.Leaf.{LeafFound, Begun};
 use actions::ActionSet;
+use check_steps::Walk;
+use check_steps::meet;
 use modes::first_mark;
-use modes::lead;
 use modes::nexts_fit;
-use possible::branches_taken;
-use possible::pass_on;
-use possible::step_effects;
-use reading::byte;
-use targets::step_fits;
+use records::row_read;
 
-// Rule 6, rule 7, rule 8, the effect set and the number of ins steps.
+// Rule 4 of the step records, rule 6, rule 7, rule 8, the effect set and the number of ins steps.
 pub struct Walked {
+    pub fields: bool,
     pub targets: bool,
     pub modes: bool,
     pub taken: bool,
@@ -25,52 +23,64 @@ pub struct Walked {
     pub inserts: u32,
 }
 
-// Only kind 4 is an ins.
-fn is_ins(policy: &[u8], at: usize) -> bool
-    requires { ⌜ at < length (now policy) ⌝ }
-    ensures { λ r. ⌜ r ≡ isIns (stepOf (rowAt (now (policy .entry)) at)) ⌝ }
+// What a walk gives that ends at a broken step: rule 4 is kept or broken as `fields` says, and if kept then rule 6 is broken.
+fn ended(fields: bool) -> Walked
+    ensures { λ r. ⌜ (r .fields ≡ fields) × (r .targets ≡ false) ⌝ }
 {
-    byte(policy, at) == 4
+    Walked {
+        fields,
+        targets: false,
+        modes: false,
+        taken: false,
+        effects: ActionSet::EMPTY,
+        inserts: 0,
+    }
 }
 
-// A walk ends at a step that breaks rule 6. What it has found by then says nothing of the leaf, and so is not given.
+// Where a walk begins: nothing is found yet.
+fn begun() -> Walk
+    ensures { λ r. ⌜ Begun r ⌝ }
+{
+    let marks = first_mark();
+    let effects = ActionSet::EMPTY;
+    Walk {
+        targets: true,
+        modes: true,
+        taken: true,
+        marks,
+        nexts: 0,
+        effects,
+        inserts: 0,
+    }
+}
+
+// A walk ends at a step that breaks rule 4 or rule 6. What it has found by then says nothing of the leaf, and so is not given.
 pub fn walk(policy: &[u8], at: usize, count: usize, set: ActionSet) -> Walked
     requires { ⌜ (at + 12 * count ≤ length (now policy)) × (count ≤ 64) ⌝ }
-    ensures { λ r. ⌜ LeafFound r (set .bits) (codeAt (now (policy .entry)) at count) ⌝ }
+    ensures { λ r. ⌜ LeafFound r (set .bits) (rowsFit (now (policy .entry)) at count) (codeAt (now (policy .entry)) at count) ⌝ }
 {
-    let mut seen = first_mark();
+    let mut w = begun();
     let mut sets = [0u64; 64];
-    let mut modes = true;
-    let mut taken = true;
-    let mut effects = ActionSet::EMPTY;
-    let mut inserts: u32 = 0;
     let mut o = 0;
     while o < count {
-        let row = at + 12 * o;
-        if !step_fits(policy, at, count, o, set) {
-            return Walked {
-                targets: false,
-                modes: false,
-                taken: false,
-                effects: ActionSet::EMPTY,
-                inserts: 0,
-            };
+        let row = row_read(policy, at + 12 * o);
+        if !row.fits {
+            return ended(false);
         }
-        let led = lead(policy, row, o, seen);
-        seen = led.marks;
-        modes = modes & led.fits;
-        let p = ActionSet { bits: sets[o] };
-        taken = taken & branches_taken(policy, row, p);
-        effects = effects.union(step_effects(policy, row, p));
-        inserts += is_ins(policy, row) as u32;
-        pass_on(policy, row, p, set, &mut sets);
+        let step = row.step;
+        w = meet(w, o, count, set, step, &mut sets);
+        if !w.targets {
+            return ended(true);
+        }
         o += 1;
     }
+    let effects = w.effects;
     Walked {
+        fields: true,
         targets: true,
-        modes: modes & nexts_fit(policy, at, count, seen),
-        taken,
+        modes: w.modes & nexts_fit(w.nexts, w.marks),
+        taken: w.taken,
         effects,
-        inserts,
+        inserts: w.inserts,
     }
 }

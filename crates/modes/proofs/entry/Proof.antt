@@ -5,6 +5,9 @@ use Rattle.modes.specs.Table.{entryAt}
 use Rattle.modes.proofs.entry.Statement.{statement}
 use Rattle.modes.proofs.entry.Tie as tie
 
+sub-result : tie.Need-sub-result
+sub-result c = search needs
+
 mul-result : tie.Need-mul-result
 mul-result c = search needs
 
@@ -19,4 +22,4 @@ unfolding entryAt
 returns c = refl
 
 pub entry-spec : {M : Type 1} → statement M
-entry-spec = tie.close (tie.spec mul-result index-1-result index-2-result returns)
+entry-spec = tie.close (tie.spec sub-result mul-result index-1-result index-2-result returns)

@@ -16,18 +16,18 @@ inside s e h = room-one (s .args .mode) (s .args .o) (omega arith) (s .pre)
 
 returns : tie.Need-returns
 unfolding joined union modeNumber
-returns c = joined-adds _ idle _ _ _ _ (c .before .before .match .keys1) (c .before .only-bit .ensures)
+returns c = joined-adds _ idle _ _ _ (c .before .before .match .keys1) (c .before .only-bit .ensures)
 
 returns-2 : tie.Need-returns-2
 unfolding joined union modeNumber
-returns-2 c = joined-adds _ pending _ _ _ _ (c .before .before .match .keys2) (c .before .only-bit2 .ensures)
+returns-2 c = joined-adds _ pending _ _ _ (c .before .before .match .keys2) (c .before .only-bit2 .ensures)
 
 returns-3 : tie.Need-returns-3
 unfolding joined union modeNumber
-returns-3 c = joined-adds _ closing _ _ _ _ (c .before .before .match .keys3) (c .before .only-bit3 .ensures)
+returns-3 c = joined-adds _ closing _ _ _ (c .before .before .match .keys3) (c .before .only-bit3 .ensures)
 
 returns-4 : tie.Need-returns-4
-returns-4 c = adds-none _ _ _ _ (omega arith)
+returns-4 c = adds-none _ _ _ (omega arith)
 
 pub reach-spec : {M : Type 1} → statement M
 reach-spec =

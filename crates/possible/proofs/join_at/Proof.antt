@@ -9,9 +9,7 @@ use Rattle.possible.proofs.join_at.Tie as tie
 
 returns : tie.Need-returns
 unfolding joinAt EMPTY
-returns c = let a = c .before .before .before .args in ap (set (a .sets .now) (a .target)) (c .union .ensures)
+returns c = let a = c .before .before .args in ap (set (a .sets .now) (a .o)) (c .union .ensures)
 
 pub join-at-spec : {M : Type 1} → statement M
-join-at-spec =
-    tie.close
-    (tie.spec (λ c. search needs) (λ c. search needs) (λ c κs. search needs) (λ c. search needs) (λ c. search needs) (λ c. search needs) returns)
+join-at-spec = tie.close (tie.spec (λ c. search needs) (λ c. search needs) (λ c κs. search needs) (λ c. search needs) (λ c. search needs) returns)

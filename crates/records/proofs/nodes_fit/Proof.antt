@@ -6,10 +6,12 @@ use Prim.Native.Nat.{ℕ, _-_}
 use mathlib.Core.Path.{_≡_, sym, ap, _∙_}
 use mathlib.Core.Bool.{Bool}
 use Rattle.policy.specs.Bytes.{Bytes}
-use Rattle.policy.specs.Records.{Node, nodeAt, nodePlace}
+use Rattle.policy.specs.Lists.{listed, every}
+use Rattle.policy.specs.Records.{Node, nodeAt, nodePlace, nodeCount, nodes}
 use Rattle.policy.specs.Tree.{nodeKind}
 use Rattle.rules.specs.Layout.{nodeFits}
 use Rattle.policy.proofs.EveryLoop.{Left, all-left, one-less, one-fails, none-left}
+use Rattle.records.specs.Fits.{nodesFit}
 use Rattle.records.proofs.nodes_fit.Statement.{statement}
 use Rattle.records.proofs.nodes_fit.Tie as tie
 
@@ -38,10 +40,16 @@ tested c =
     let place = c .before .node-place in
     ap (λ (a : ℕ). test (nodeAt (c .before .before .before .before .before .args .policy .now) a)) (sym (place .ensures)) ∙ sym (c .node-fits .ensures)
 
+-- the file's nodes are the n that the loop runs over
+all-nodes : (file : Bytes) (n : ℕ) → n ≡ nodeCount file → every test (listed (node-of file) 0 n) ≡ nodesFit file
+unfolding nodesFit nodes
+all-nodes file n e = ap (λ (k : ℕ). every test (listed (node-of file) 0 k)) e
+
 returns : tie.Need-returns Inv-loop μ-loop
 returns c =
     let l = c .before .before .before .before .loop in
     one-fails test (node-of _) _ (l .i) (c .before .before .before .loop-test .taken) (l .inv) (tested (c .before) ∙ not-true _ (c .if1 .taken))
+    ∙ all-nodes _ _ (c .before .before .before .before .before .before .pre .0)
 
 loop-again : tie.Need-loop-again Inv-loop μ-loop
 loop-again c =
@@ -49,7 +57,7 @@ loop-again c =
     one-less test (node-of _) _ (l .i) (c .before .before .before .loop-test .taken) (l .inv) (tested (c .before) ∙ not-false _ (c .if1 .left))
 
 returns-2 : tie.Need-returns-2 Inv-loop μ-loop
-returns-2 c = none-left test (node-of _) _ (c .before .loop .i) (c .loop-test .left) (c .before .loop .inv)
+returns-2 c = none-left test (node-of _) _ (c .before .loop .i) (c .loop-test .left) (c .before .loop .inv) ∙ all-nodes _ _ (c .before .before .before .pre .0)
 
 pub nodes-fit-spec : {M : Type 1} → statement M
 nodes-fit-spec =

@@ -1,7 +1,7 @@
 -- `row_fits` meets its contract: with its kind known, a row's test is the arm's. Assumes nothing.
 use borrow.Author.Needs.{needs}
 use Prim.Native.Nat.{ℕ}
-use mathlib.Core.Path.{_≡_, refl, sym, _∙_}
+use mathlib.Core.Path.{_≡_, refl, sym, ap, _∙_}
 use mathlib.Core.Bool.{_&&_}
 use lib.Dec.{eqb, leb}
 use Rattle.policy.specs.Records.{Row, rowAt}
@@ -18,7 +18,7 @@ module _ (c : tie.After-word322) where
   of-kind : (k : ℕ) → c .before .before .byte .result ≡ k
       → rowFits (rowOf k (row .action) (row .first) (row .second) (row .operand)) ≡ rowFits row
   unfolding rowAt
-  of-kind k e = row-read _ _ _ _ _ _ _ (sym e ∙ c .before .before .byte .ensures) refl refl refl refl
+  of-kind k e = ap rowFits (row-read _ _ _ _ _ _ _ (sym e ∙ c .before .before .byte .ensures) refl refl refl refl)
 
   no-operand : (eqb (c .before .word32 .result) 0 && eqb (c .word322 .result) 0) ≡ noOperand row
   no-operand = no-operand-read _ _ _ _ (c .before .word32 .ensures .0) (c .word322 .ensures .0) (c .before .before .before .before .pre)

@@ -7,6 +7,7 @@ use Rattle.policy.specs.Bytes.{Bytes}
 use Rattle.policy.specs.Records.{Row, rowAt}
 use Rattle.rules.specs.Layout.{rowFits}
 use Rattle.policy.proofs.EveryLoop.{Left, all-left, one-less, one-fails, none-left}
+use Rattle.records.specs.Fits.{rowsFit}
 use Rattle.records.proofs.rows_fit.Statement.{statement}
 use Rattle.records.proofs.rows_fit.Tie as tie
 
@@ -23,6 +24,7 @@ loop-holds : tie.Need-loop-holds Inv-loop μ-loop
 loop-holds c = all-left rowFits (row-of _ _) _
 
 returns : tie.Need-returns Inv-loop μ-loop
+unfolding rowsFit
 returns c =
     let l = c .before .before .before .loop in
     one-fails rowFits (row-of _ _) _ (l .i) (c .before .before .loop-test .taken) (l .inv) (sym (c .before .row-fits .ensures) ∙ not-true _ (c .if1 .taken))
@@ -33,6 +35,7 @@ loop-again c =
     one-less rowFits (row-of _ _) _ (l .i) (c .before .before .loop-test .taken) (l .inv) (sym (c .before .row-fits .ensures) ∙ not-false _ (c .if1 .left))
 
 returns-2 : tie.Need-returns-2 Inv-loop μ-loop
+unfolding rowsFit
 returns-2 c = none-left rowFits (row-of _ _) _ (c .before .loop .i) (c .loop-test .left) (c .before .loop .inv)
 
 pub rows-fit-spec : {M : Type 1} → statement M

@@ -21,10 +21,10 @@ walk-requires c κs = search needs
 returns : tie.Need-returns
 unfolding kindOf
 returns c =
-    leaf-found _ _ _ _ (sym (ap kindOf (c .before .before .enum-told .given .1)) ∙ c .before .before .before .before .node-kind .ensures) (c .before .node-set .ensures) (c .walk .ensures)
+    leaf-found _ _ _ _ _ _ (sym (ap kindOf (c .before .before .enum-told .given .1)) ∙ c .before .before .before .before .node-kind .ensures) (c .before .node-set .ensures) (c .walk .ensures)
 
 returns-2 : tie.Need-returns-2
-returns-2 c = other-found _ _ _ _ refl refl refl (c .before .node-kind .ensures) (c .match .keys2)
+returns-2 c = other-found _ _ _ _ _ _ refl refl refl refl (c .before .before .before .pre .1) (c .before .node-kind .ensures) (c .match .keys2)
 
 pub walk-node-spec : {M : Type 1} → statement M
 walk-node-spec =
