@@ -11,18 +11,18 @@ use Rattle.actions.proofs.Tests.{yes-of}
 use Rattle.policy.specs.Bytes.{Bytes, number, put}
 use Rattle.policy.specs.Records.{mostNodes}
 use Rattle.policy.specs.Tree.{Tree, regulated, tree}
-use Rattle.policy.proofs.ByteLaws.{Small}
+use Rattle.policy.proofs.ByteLaws.{Small, put-none}
 use Rattle.rules.specs.Passed.{Passed}
 use Rattle.rules.proofs.Numbers.{root-number}
 use Rattle.turns.specs.Status.{Status, statusNumber, statusOf, isRunning}
 use Rattle.turns.specs.State.{State, status}
 use Rattle.turns.specs.Process.{Process, Out, outcome, trace, items}
-use Rattle.turns.specs.Turn.{Phase, before, after, isAsked, quiet, verdict, phase, fresh, Request, opening, offer, call}
+use Rattle.turns.specs.Turn.{Phase, before, after, isAsked, quiet, verdict, phase, fresh, closing, Request, opening, offer, close, call}
 use Rattle.turns.specs.Events.{eventOf, events, eventBytes}
 use Rattle.turns.specs.Saved.{stateSize, statusAt, load, saved, fits}
 use Rattle.turns.specs.Entries.{carriedOut, carried}
 use Rattle.conduct.proofs.Fits.{status-at}
-use Rattle.conduct.proofs.NoChange.{saved-load, unasked}
+use Rattle.conduct.proofs.NoChange.{saved-load, unasked, decided-quiet}
 use Rattle.turn_paths.specs.Memory.{Mem, held}
 use Rattle.turn_paths.proofs.Frames.{held-same}
 use Rattle.turn_memory.proofs.CellLaws.{view-same}
@@ -138,6 +138,18 @@ stayed policy state room {room′} ok size small fit a {b} e f g =
     let same : state ≡ saved t (load t state) = sym (saved-load policy ok state size small fit) in
     subst (λ (p : Process). Gave (carried t p room) (Answered 1 b) state room′) (sym (unasked t a (load t state) (root-asked policy state a ∙ e)))
     (record { answer = ended ok 1 same f .answer; state = same; events = g })
+
+-- "Closing a decided root emits nothing and answers its status."
+pub closed : (policy state room : Bytes) → Passed policy → length state ≡ stateSize → Small state → T (fits policy state) → {b : ℕ} {v : Bool}
+    → b ≡ number state 0 1 → v ≡ isRunning (statusOf b) → v ≡ false → Gave (carriedOut policy close state room) (Answered 0 b) state room
+unfolding carriedOut carried call spoken quiet items trace outcome events eventBytes statusAt
+closed policy state room ok size small fit {b} f g e =
+    let t : Tree = tree policy in
+    let same : state ≡ saved t (load t state) = sym (saved-load policy ok state size small fit) in
+    let stopped : isRunning (status (load t state)) ≡ false =
+    ap isRunning (sym (root-read policy state)) ∙ ap (λ (k : ℕ). isRunning (statusOf k)) (sym f) ∙ sym g ∙ e in
+    subst (λ (p : Process). Gave (carried t p room) (Answered 0 b) state room) (sym (decided-quiet t (load t state) stopped))
+    (record { answer = ended ok 0 same f .answer; state = same; events = sym (put-none room 0) })
 
 -- ---- which call it is
 

@@ -105,6 +105,7 @@ fn carry_open(
     one_phase(policy, nodes, steps, &mut mem, state, events, AFTER)
 }
 
+// "Closing a decided root emits nothing and answers its status.": no byte of the state moves.
 fn carry_close(
     policy: &[u8],
     nodes: usize,
@@ -115,6 +116,10 @@ fn carry_close(
     requires { ⌜ Counted (now policy) nodes steps × Runs (now policy) (now state) (now events) Close ⌝ }
     ensures { λ r. ⌜ Gave (carriedOut (now (policy .entry)) spec.close (now (state .entry)) (now (events .entry))) r (now (state .exit)) (now (events .exit)) ⌝ }
 {
+    let status = byte(state, 0);
+    if !is_running(status) {
+        return Answer::Answered(0, status);
+    }
     let mut mem = [0u64; 157];
     wake(state, nodes, &mut mem);
     one_phase(policy, nodes, steps, &mut mem, state, events, CLOSING)

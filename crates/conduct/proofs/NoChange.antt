@@ -66,7 +66,7 @@ pub unasked : (t : Tree) (a : Action) (s : State) → isAsked (regulated t) (bef
 unfolding call
 unasked t a s e = rw (e, call)
 
-decided-quiet : (t : Tree) (s : State) → isRunning (status s) ≡ false → phase t closing s ≡ quiet s
+pub decided-quiet : (t : Tree) (s : State) → isRunning (status s) ≡ false → phase t closing s ≡ quiet s
 unfolding phase ifAsked isAsked
 decided-quiet (leaf i r c code) s e = rw (e, ifAsked)
 decided-quiet (trivial i) s e = rw (e, ifAsked)
