@@ -123,12 +123,6 @@ def lay_out(policy):
     return nodes, steps, lines
 
 
-def as_text(policy):
-    lines = lay_out(policy)[2]
-    width = max(len(code) for code, remark in lines if remark) if any(r for _, r in lines) else 0
-    return "\n".join(f"{code:<{width}}  # {remark}" if remark else code for code, remark in lines)
-
-
 def as_source(policy):
     """The policy as the text that guardwrite reads: a record a line; a remark says its number and what it is for."""
     nodes, steps, lines = lay_out(policy)
@@ -429,8 +423,8 @@ def sample(name, about, commands, policy, run, opens=("running", ""), closes=("e
 
 sample("memory-limit", """
 Document 002's first example, memLimit. Actions have no arguments here, so a request for memory
-comes in three sizes. A request is granted while the counter holds it, down to the last unit (002 compares
-strictly, `(q-n) > 0`, and never hands out the last one: 02's Req 01); the request for more than is left halts the program.
+comes in three sizes. A request is granted while the counter holds it, down to the last unit. A request for more
+than is left halts the program. (002 compares strictly, `(q-n) > 0`, and never hands out the last unit; change request 01 has it handed out.)
 """, {10: "malloc, 1 unit", 11: "malloc, 4 units", 12: "malloc, 16 units", 40: "anything else"},
        MEMORY, [
     (10, "acc 10", "20 units become 19"),
@@ -443,11 +437,11 @@ strictly, `(q-n) > 0`, and never hands out the last one: 02's Req 01); the reque
 ], closes=("halted", "", ""), unread=[40])
 
 sample("file-access", """
-002's second example, fileAccess, for two files by name instead of arguments and a list: each file
-has a leaf of its own that knows whether it is open, and a parallel "and" joins them. As in 002: closing
-a file that isn't open is a small error and is held back; opening a file that the list doesn't
-allow closes the open files and halts; at the end the files left open are closed. Reading and
-writing are added; a second open of an open file is held back.
+002's second example, fileAccess, for two files by name in place of arguments and a list. Each file
+has a leaf of its own that knows whether it is open, and a parallel "and" joins them. As in 002, closing
+a file that isn't open is a small error and is held back. Opening a file that the list doesn't
+allow closes the open files and halts. At the end the files left open are closed. Reading and
+writing are added, and a second open of an open file is held back.
 """, {20: "open A", 21: "read A", 22: "write A", 23: "close A", 24: "open B", 25: "read B",
       26: "write B", 27: "close B", 28: "open a file outside the list"},
        ("parallel and", FILE_A, FILE_B), [
@@ -461,8 +455,8 @@ writing are added; a second open of an open file is held back.
 ], closes=("ended", "ins 23, ins 27", "both files were left open and are closed, left side first"))
 
 sample("resource-manager", """
-002's RM = fileAccess and memLimit, in parallel (its strictRM is the same thing). Neither side regulates
-what the other touches, so they pass the check side by side. If either halts, all is halted.
+002's RM = fileAccess and memLimit, in parallel (its strictRM is the same thing). Neither side inserts or suppresses
+what the other regulates, so they pass the check side by side. If either halts, the whole halts.
 """, {10: "malloc, 1 unit", 11: "malloc, 4 units", 12: "malloc, 16 units", 20: "open A",
       21: "read A", 22: "write A", 23: "close A", 28: "open a file outside the list"},
        ("parallel and", FILE_A, MEMORY), [
@@ -477,7 +471,7 @@ what the other touches, so they pass the check side by side. If either halts, al
 
 sample("lax-manager", """
 002's laxRM: file access joined with the trivial policy in place of the memory limit. Trivial has
-ended from the start and accepts everything; what is left is the file policy alone.
+ended from the start and accepts everything, so that what is left is the file policy alone.
 """, {12: "malloc, 16 units (nobody regulates it)", 20: "open A", 21: "read A", 22: "write A",
       23: "close A", 28: "open a file outside the list"},
        ("parallel and", FILE_A, TRIVIAL), [
@@ -489,7 +483,7 @@ ended from the start and accepts everything; what is left is the file policy alo
 ], closes=("ended", "ins 23", "A was left open and is closed; now both sides have ended"))
 
 sample("widened", """
-002's widenedPol = untrustedPol or authenticatedPol. Without a log in only reading is allowed; a program
+002's widenedPol = untrustedPol or authenticatedPol. Without a login only reading is allowed. A program
 that logs in before anything else may write too. A side that halts alone is passed over.
 """, {40: "log in", 41: "read", 42: "write"},
        ("parallel or", UNTRUSTED, AUTHENTICATED), [
@@ -501,7 +495,7 @@ that logs in before anything else may write too. A side that halts alone is pass
 
 sample("chinese-wall", """
 002's ChineseWall: only A or only B, in parallel. The first action on a company makes the side of the other
-one halt, and from then on an action on the other company halts the side that is left, and with it all.
+one halt. From then on an action on the other company halts the side that is left, and with it the whole.
 """, {30: "read company A's books", 31: "advise A", 32: "read company B's books", 33: "advise B",
       7: "anything else"},
        WALL, [
@@ -514,7 +508,7 @@ one halt, and from then on an action on the other company halts the side that is
 
 sample("chinese-wall-held", """
 The same wall in a mild form, as one leaf: once a company is chosen, actions on the other are held back
-and the run goes on. The choice is kept in the place where the leaf waits.
+and the run goes on. The choice is kept by the step at which the leaf waits.
 """, {30: "read company A's books", 31: "advise A", 32: "read company B's books", 33: "advise B",
       7: "anything else"},
        WALL_HELD, [
@@ -526,9 +520,9 @@ and the run goes on. The choice is kept in the place where the leaf waits.
 ])
 
 sample("file-log", """
-002's logging example. In parallel with the log, file access is refused (number 9: it closes files that the
-log regulates; see tests/runs/), because the log would miss those. One after the other it works: the log
-stands on the right and sees all that comes out of the file policy, the closes it makes itself too.
+002's logging example. In parallel with the log, file access is refused with 9 (see tests/runs/): it inserts closes,
+which the log regulates and would miss. In series it works: the log stands on the right and sees all that comes
+out of the file policy, including the closes that it inserts.
 """, {20: "open A", 21: "read A", 22: "write A", 23: "close A",
       28: "open a file outside the list", 29: "write a log line"},
        ("sequential and", FILE_A, LOG), [
@@ -540,8 +534,9 @@ stands on the right and sees all that comes out of the file policy, the closes i
 ], closes=("ended", "ins 23, ins 29", "A was left open: closed by the guard, and that is logged"))
 
 sample("limit-writer", """
-002's limitWriter (section 4, which shows its first line and describes the rest): a limit on the number and kind of
-files open for writing, here two at a time and text files only; what is held back gives an error message. A counter can only fall, so the number of open writers is kept in the place where the leaf waits.
+002's limitWriter (section 4 shows its first line and describes the rest): a limit on the number and kind of
+files open for writing, here two at a time and text files only. An open that is held back gives an error message. A counter
+can only fall, so the number of open writers is kept by the step at which the leaf waits.
 """, {50: "open a writer on a text file", 51: "open a writer on another file",
       52: "close a writer", 53: "print an error message"},
        WRITER, [
@@ -557,11 +552,11 @@ files open for writing, here two at a time and text files only; what is held bac
 ])
 
 sample("brazing-furnace", """
-A furnace that brazes radiators on a belt. Soak: while a load is owed its soak, a belt slowdown is held back;
-it is kept in mind, and once the soak is done the guard gives the command itself. Reheats: three are allowed in
-a run (a counter is never filled up again); a fourth is held back and the load is sent to scrap. These two touch
-different commands and stand in parallel. Drive stands after both, because it has to see every slowdown that goes out, the guard's own too:
-it lets the burners follow the belt, and holds back a speed command that changes nothing.
+A furnace that brazes radiators on a belt. Soak: while a load is owed its soak, a belt slowdown is held back and
+kept in mind; once the soak is done, the guard gives the command itself. Reheats: three are allowed in a run, for a
+counter is never filled up again. A fourth is held back, and the load is sent to scrap. These two touch
+different commands and stand in parallel. Drive stands in series after both, because it has to see every slowdown that goes
+out, including the guard's own. It lets the burners follow the belt, and holds back a speed command that changes nothing.
 """, {1: "load in, soak owed", 2: "soak done", 3: "slow belt", 4: "full speed", 5: "reheat",
       6: "load to scrap", 7: "call the operator", 8: "burners down", 9: "burners up",
       60: "anything else"},
@@ -586,18 +581,18 @@ it lets the burners follow the belt, and holds back a speed command that changes
 ], closes=("ended", "ins 7", "closed with a soak owed: the operator is called"))
 
 sample("small-parallel-and", """
-01's V and V' side by side. Each holds back its action and gives another instead; at the end both
-give theirs once more, left first (01's P11). It has ended when both sides have.
-""", {4: "V's action", 3: "what V gives", 5: "the action of V'", 6: "what V' gives"},
+01's V and V' side by side. Each holds back its action and inserts another instead. On closing both
+insert theirs once more, left first (01's P11). The whole has ended when both sides have.
+""", {4: "V's action", 3: "what V inserts", 5: "the action of V'", 6: "what V' inserts"},
        ("parallel and", V, V2), [
     (4, "sup 4, ins 3", "V"),
     (5, "sup 5, ins 6", "V'"),
-    (3, "acc 3", "not regulated: V gives 3 but doesn't watch it"),
+    (3, "acc 3", "not regulated: V inserts 3 but doesn't watch it"),
 ], closes=("ended", "ins 3, ins 6", ""))
 
 sample("small-parallel-or", """
 01's L beside a leaf E that ends after action 8. L halts at the fourth 2, alone, and is passed over.
-When E has ended, the whole has ended right and accepts everything from then on.
+Once E has ended, the whole has ended right and accepts everything.
 """, {2: "L's action, three allowed", 8: "E's action: after it E has ended"},
        ("parallel or", L, EIGHT), [
     (2, "acc 2", "L's counter: 3 becomes 2"),
@@ -610,27 +605,27 @@ When E has ended, the whole has ended right and accepts everything from then on.
 ], closes=("right", "", "closing a decided root gives no events"))
 
 sample("small-sequential-and", """
-01's W before V (P7). W holds back every 3 of the program, but stands on the left: the 3 that V gives
-goes out behind it. The other way round (tests/runs/01-example) W holds back V's 3 too.
-""", {4: "V's action", 3: "what V gives and W holds back"},
+01's W before V (P7). W holds back every 3 of the program, but stands on the left: the 3 that V inserts
+goes out behind it. The other way round (tests/runs/01-example.input) W holds back V's 3 too.
+""", {4: "V's action", 3: "what V inserts and W holds back"},
        ("sequential and", W, V), [
     (4, "sup 4, ins 3", "V"),
     (3, "sup 3", "W"),
     (1, "acc 1", "not regulated"),
-], closes=("ended", "ins 3", "W ends, then V gives 3 and ends"))
+], closes=("ended", "ins 3", "W ends, then V inserts 3 and ends"))
 
 sample("small-sequential-or", """
 V before a leaf X that halts at any 3. X halts at V's 3, alone: in an "or" the 3 goes out all the same, and from
-then on X is passed over. With "and" in its place the run would halt there and the 3 would not go out.
-""", {4: "V's action", 3: "what V gives; X halts at it"},
+then on X is passed over. In an "and" the run would halt there and the 3 would not go out.
+""", {4: "V's action", 3: "what V inserts; X halts at it"},
        ("sequential or", V, NO_THREE), [
     (4, "sup 4, ins 3", "X halts at the 3, which goes out"),
     (3, "acc 3", "X is passed over"),
     (4, "sup 4, ins 3", "V goes on"),
-], closes=("left", "ins 3", "V gives 3 and ends: ended left"))
+], closes=("left", "ins 3", "V inserts 3 and ends: ended left"))
 
 sample("small-trivial", """
-The trivial policy alone, 22 bytes: ended from the start, everything is accepted; a number above 63 is refused
+The trivial policy alone, 22 bytes. It has ended from the start, so everything is accepted. A number above 63 is refused,
 and the run goes on.
 """, {0: "any action", 63: "any action", 64: "not an action"},
        TRIVIAL, [
@@ -640,8 +635,8 @@ and the run goes on.
 ], opens=("ended", ""))
 
 sample("small-unsatisfiable", """
-01's L or the unsatisfiable policy (P8). Unsatisfiable has halted from the start; beside it in an "or" it changes
-nothing, so this is L: the fourth 2 halts. (Unsatisfiable alone opens halted: see tests/runs/.)
+01's L or the unsatisfiable policy (P8). Unsatisfiable has halted from the start, and in an "or" a lone halted side
+is passed over. So this acts as L does: the fourth 2 halts. (Unsatisfiable alone opens halted: see tests/runs/.)
 """, {1: "not regulated", 2: "L's action, three allowed"},
        ("parallel or", L, UNSATISFIABLE), [
     (1, "acc 1", ""),
@@ -1040,15 +1035,18 @@ def sample_printed(s):
 def samples_readme():
     out = ["""# Sample policies
 
-For each sample: NAME.text is the policy as guardwrite reads it, NAME.policy is the file, which guardwrite prints, NAME.input is
-what guardrun reads (the policy, then the actions, one byte each), NAME.output is what it prints. All of them pass the check. The first nine follow document 002's examples, as
-far as actions without arguments allow; its genericRM is a function over policies and is left out.
+Each sample has four files:
 
-The policies are written one record a line, in the notation of 01's "Small policies to try": `next take/done`,
-`ok to`, `sup to`, `ins action to step`, `acase {set} yes/no`, `spend n yes/no`, `end`, `halt`. A node's
-line comes before its leaf's steps; in the file all nodes come first. A remark follows a `#`.
+- `NAME.text` is the policy as text, with remarks; `docs/TEXT.md` says how to read it.
+- `NAME.policy` is the file that `guardwrite` makes of it. All of them pass the check.
+- `NAME.input` is what `guardrun` reads: the policy file, then the actions, one byte each.
+- `NAME.output` is what `guardrun` prints. `make sample SAMPLE=NAME` prints the same.
 
-All files here are made by tests/stored.py; run `python3 tests/stored.py check PROGRAM` to compare a guardrun with them."""]
+The first nine samples follow the examples of document 002, the report on the policy calculus, as far as actions without arguments allow.
+Its genericRM is a function over policies and is left out. "01" is the user's paper on scope and rules, which has the small policies L, V,
+V' and W. "Held back" means suppressed.
+
+All files here are made by `tests/stored.py`. To compare a guardrun with them, run `python3 tests/stored.py check PROGRAM`."""]
     out.append("\n| Sample | Nodes | Steps | Bytes | Opens | Closes |\n|---|---|---|---|---|---|")
     for s in SAMPLES:
         nodes, steps, _ = lay_out(s["policy"])
@@ -1056,7 +1054,7 @@ All files here are made by tests/stored.py; run `python3 tests/stored.py check P
                     f"| {s['opens'][0]} | {s['closes'][0]} |")
     for s in SAMPLES:
         commands = "; ".join(f"{a} {what}" for a, what in s["commands"].items())
-        out.append(f"\n## {s['name']}\n\n{s['about']}\n\nCommands: {commands}.\n\n```\n{as_text(s['policy'])}\n```\n")
+        out.append(f"\n## {s['name']}\n\n{s['about']}\n\nPolicy: [{s['name']}.text]({s['name']}.text). Actions: {commands}.\n")
         rows = ["| Offered | Printed | Why |", "|---|---|---|"]
         first = ", ".join([f"open {s['opens'][0]}"] + listed(s["opens"][1]))
         rows.append(f"| (opening) | {first} | |")

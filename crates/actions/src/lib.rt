@@ -2,6 +2,9 @@
 ghost use mathlib.Core.Path.{_≡_};
 ghost use Rattle.actions.specs.Sets.{single, union, common, difference, has, isEmpty, within, meets};
 
+// The greatest action.
+pub const LAST_ACTION: u8 = 63;
+
 pub struct ActionSet {
     pub bits: u64,
 }
@@ -12,7 +15,7 @@ impl ActionSet {
     pub fn single(a: u8) -> ActionSet
         ensures { λ r. ⌜ r .bits ≡ single a ⌝ }
     {
-        if a <= 63 {
+        if a <= LAST_ACTION {
             ActionSet { bits: 1u64 << a }
         } else {
             ActionSet::EMPTY
@@ -46,7 +49,7 @@ impl ActionSet {
     pub fn has(self, a: u8) -> bool
         ensures { λ r. ⌜ r ≡ has (self .bits) a ⌝ }
     {
-        a <= 63 && (self.bits >> a) % 2 == 1
+        a <= LAST_ACTION && (self.bits >> a) % 2 == 1
     }
 
     pub fn is_empty(self) -> bool

@@ -6,19 +6,20 @@ use mathlib.Core.Bool.{Bool, true, false}
 use mathlib.Core.List.{List, [], _∷_}
 use lib.ListN.{length, set}
 use Rattle.actions.specs.Sets.{Action}
-use Rattle.policy.specs.Bytes.{Bytes, number, put}
-use Rattle.policy.specs.Tree.{Tree, leaf, trivial, unsatisfiable, node, numberOf, tree}
-use Rattle.policy.proofs.ByteLaws.{put-none, put-sets}
-use Rattle.lawful.proofs.LawfulTree.{lawful}
-use Rattle.rules.proofs.Numbers.{root-number}
-use Rattle.rules.specs.Passed.{Passed}
-use Rattle.turns.specs.Status.{Status, statusNumber, isHalted}
-use Rattle.turns.specs.State.{State, status}
-use Rattle.turns.specs.Turn.{verdict}
-use Rattle.turns.specs.Events.{Event, eventOf, eventBytes}
-use Rattle.turns.specs.Saved.{statusAt, cell, saved}
-use Rattle.conduct.proofs.Cells.{cellAt, Kept, lawful-apart, status-is, saved-length, saved-kept}
-use Rattle.conduct.proofs.Lasting.{in-cells}
+use Rattle.spec_policy.specs.Bytes.{Bytes, put}
+use Rattle.spec_policy.specs.Tree.{Tree, leaf, trivial, unsatisfiable, node, numberOf, tree}
+use Rattle.spec_policy.proofs.ByteLaws.{put-none, put-sets}
+use Rattle.laws_check.proofs.LawfulTree.{lawful}
+use Rattle.spec_check.proofs.Numbers.{root-number}
+use Rattle.spec_check.specs.Passed.{Passed}
+use Rattle.spec_turns.specs.Status.{Status, statusNumber, isHalted}
+use Rattle.spec_turns.specs.State.{State, status}
+use Rattle.spec_turns.specs.Turn.{verdict}
+use Rattle.spec_turns.specs.Events.{Event, eventOf, eventBytes}
+use Rattle.spec_turns.specs.Saved.{statusAt, cell, saved}
+use Rattle.laws_turns.proofs.Cells.{Kept, lawful-apart, status-is, saved-length, saved-kept}
+use Rattle.laws_turns.specs.Cells.{cellAt}
+use Rattle.laws_turns.proofs.Lasting.{in-cells}
 use Rattle.call_answer.specs.declared.Answer.the-variants.{Answered}
 use Rattle.call_answer.specs.Ends.{verdicts, Added, Ended}
 
@@ -73,6 +74,5 @@ module _ {policy : Bytes} (ok : Passed policy) where
       (subst (λ (i : ℕ). cellAt (saved t s) i ≡ cell s) (root-number policy)
       (kept-root t s (saved t s) (saved-kept t (lawful-apart t (lawful policy ok)) (in-cells policy ok) s)))
 
-  pub ended : {s : State} (n : ℕ) {b : ℕ} {bytes : Bytes} → bytes ≡ saved (tree policy) s → b ≡ number bytes 0 1 → Ended (tree policy) s n (Answered n b) bytes
-  unfolding statusAt
-  ended {s} n e f = record { answer = ap (Answered n) (f ∙ ap (λ (bs : Bytes). number bs 0 1) e ∙ saved-root s); state = e }
+  pub ended : {s : State} (n : ℕ) {b : ℕ} {bytes : Bytes} → bytes ≡ saved (tree policy) s → b ≡ statusAt bytes 0 → Ended (tree policy) s n (Answered n b) bytes
+  ended {s} n e f = record { answer = ap (Answered n) (f ∙ ap (λ (bs : Bytes). statusAt bs 0) e ∙ saved-root s); state = e }

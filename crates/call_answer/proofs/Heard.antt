@@ -3,13 +3,13 @@ use Prim.Native.Nat.{ℕ, _*_, _≤_}
 use native.Mathlib.Omega.{arith}
 use mathlib.Core.Path.{_≡_, sym, ap, ap₂, _∙_, subst}
 use lib.ListN.{length}
-use Rattle.policy.specs.Bytes.{Bytes}
-use Rattle.turns.specs.Status.{statusNumber, statusOf}
-use Rattle.turns.specs.Turn.{Request}
-use Rattle.turns.specs.Entries.{Reply, answers, refuses, entry}
-use Rattle.conduct.proofs.Answered.{answered, room-kept}
-use Rattle.conduct.proofs.Bounds.{answered-emits}
-use Rattle.conduct.proofs.Cells.{status-back}
+use Rattle.spec_policy.specs.Bytes.{Bytes}
+use Rattle.spec_turns.specs.Status.{statusNumber, statusOf}
+use Rattle.spec_turns.specs.Turn.{Request}
+use Rattle.spec_turns.specs.Entries.{Reply, answers, refuses, entry}
+use Rattle.laws_turns.proofs.Answered.{answered, room-kept}
+use Rattle.laws_turns.proofs.Bounds.{answered-emits}
+use Rattle.laws_turns.proofs.Cells.{status-back}
 use Rattle.call_answer.specs.Replies.{spoken, Gave}
 use Rattle.call_answer.specs.declared.Answer.{Answer}
 use Rattle.call_answer.specs.declared.Answer.the-variants.{Answered, Refused}

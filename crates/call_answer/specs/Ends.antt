@@ -5,13 +5,13 @@ use mathlib.Core.Bool.{Bool, true, false}
 use mathlib.Core.List.{List, []}
 use lib.ListN.{length}
 use Rattle.actions.specs.Sets.{Action}
-use Rattle.policy.specs.Bytes.{Bytes, put}
-use Rattle.policy.specs.Tree.{Tree}
-use Rattle.turns.specs.Status.{Status, statusNumber, isHalted}
-use Rattle.turns.specs.State.{State, status}
-use Rattle.turns.specs.Turn.{verdict}
-use Rattle.turns.specs.Events.{Event, eventOf, eventBytes}
-use Rattle.turns.specs.Saved.{saved}
+use Rattle.spec_policy.specs.Bytes.{Bytes, put}
+use Rattle.spec_policy.specs.Tree.{Tree}
+use Rattle.spec_turns.specs.Status.{Status, statusNumber, isHalted}
+use Rattle.spec_turns.specs.State.{State, status}
+use Rattle.spec_turns.specs.Turn.{verdict}
+use Rattle.spec_turns.specs.Events.{Event, eventOf, eventBytes}
+use Rattle.spec_turns.specs.Saved.{saved}
 use Rattle.call_answer.specs.declared.Answer.{Answer}
 use Rattle.call_answer.specs.declared.Answer.the-variants.{Answered}
 

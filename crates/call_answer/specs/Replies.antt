@@ -1,8 +1,8 @@
 -- What the code's answer stands for: document 01's numbers for each of its cases. Assumes nothing.
 use mathlib.Core.Path.{_≡_}
-use Rattle.policy.specs.Bytes.{Bytes}
-use Rattle.turns.specs.Status.{statusNumber}
-use Rattle.turns.specs.Entries.{Reply, answers, refuses, Result}
+use Rattle.spec_policy.specs.Bytes.{Bytes}
+use Rattle.spec_turns.specs.Status.{statusNumber}
+use Rattle.spec_turns.specs.Entries.{Reply, answers, refuses, Result}
 use Rattle.call_answer.specs.declared.Answer.{Answer}
 use Rattle.call_answer.specs.declared.Answer.the-variants.{Answered, Refused}
 

@@ -1,5 +1,5 @@
 -- Which request the code's call stands for. Assumes nothing.
-use Rattle.turns.specs.Turn.{Request, opening, offer, close}
+use Rattle.spec_turns.specs.Turn.{Request, opening, offer, close}
 use Rattle.call_answer.specs.declared.Call.{Call}
 use Rattle.call_answer.specs.declared.Call.the-variants.{Open, Offer, Close}
 

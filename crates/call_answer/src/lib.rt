@@ -4,19 +4,20 @@ ghost use mathlib.Core.List.{[], _∷_};
 ghost use Prim.Native.Nat.{_+_, _*_, _≤_};
 ghost use lib.ListN.{length};
 ghost use Rattle.actions.specs.Sets.{Action};
-ghost use Rattle.policy.specs.Bytes.{put};
-ghost use Rattle.policy.specs.Records.{nodeCount};
-ghost use Rattle.policy.specs.Tree.{tree};
-ghost use Rattle.rules.specs.Passed.{Passed};
-ghost use Rattle.turns.specs.Turn as spec;
-ghost use Rattle.turns.specs.Events.{eventOf, eventBytes};
-ghost use Rattle.turns.specs.Saved.{stateSize};
+ghost use Rattle.spec_policy.specs.Bytes.{put};
+ghost use Rattle.spec_policy.specs.Records.{nodeCount};
+ghost use Rattle.spec_policy.specs.Tree.{tree};
+ghost use Rattle.spec_check.specs.Passed.{Passed};
+ghost use Rattle.spec_turns.specs.Turn as spec;
+ghost use Rattle.spec_turns.specs.Events.{eventOf, eventBytes};
+ghost use Rattle.spec_turns.specs.Saved.{stateSize};
 ghost use Rattle.turn_paths.specs.Memory.{held};
 ghost use Rattle.turn_memory.specs.Words.{wordCount, view};
 ghost use Rattle.call_answer.specs.Ends.{verdicts, Added, Ended};
-use reading::byte;
 use turn_memory::status_at;
 use turn_rest::tidy::tidy;
+use turn_state::HALTED;
+use turn_state::saved_status;
 
 // Which call it is.
 pub enum Call {
@@ -34,8 +35,6 @@ pub enum Answer {
 const ACCEPTED: u8 = 1;
 
 const SUPPRESSED: u8 = 2;
-
-const HALTED: u8 = 5;
 
 // "The verdict's event stands between the phases; a halt before the verdict has none."
 pub fn judge(
@@ -88,5 +87,5 @@ pub fn finish(
     ensures { λ r. ⌜ Ended (tree (now (policy .entry))) (held (tree (now (policy .entry))) (view (now (mem .entry)))) count r (now (state .exit)) ⌝ }
 {
     tidy(policy, nodes, mem, state);
-    Answer::Answered(count, byte(state, 0))
+    Answer::Answered(count, saved_status(state, 0))
 }

@@ -8,21 +8,21 @@ use lib.Dec.{T}
 use lib.ListN.{length, getD, replicate}
 use Rattle.actions.specs.Sets.{Action, ActionSet, has}
 use Rattle.actions.proofs.Tests.{yes-of}
-use Rattle.policy.specs.Bytes.{Bytes, number, put}
-use Rattle.policy.specs.Records.{mostNodes}
-use Rattle.policy.specs.Tree.{Tree, regulated, tree}
-use Rattle.policy.proofs.ByteLaws.{Small, put-none}
-use Rattle.rules.specs.Passed.{Passed}
-use Rattle.rules.proofs.Numbers.{root-number}
-use Rattle.turns.specs.Status.{Status, statusNumber, statusOf, isRunning}
-use Rattle.turns.specs.State.{State, status}
-use Rattle.turns.specs.Process.{Process, Out, outcome, trace, items}
-use Rattle.turns.specs.Turn.{Phase, before, after, isAsked, quiet, verdict, phase, fresh, closing, Request, opening, offer, close, call}
-use Rattle.turns.specs.Events.{eventOf, events, eventBytes}
-use Rattle.turns.specs.Saved.{stateSize, statusAt, load, saved, fits}
-use Rattle.turns.specs.Entries.{carriedOut, carried}
-use Rattle.conduct.proofs.Fits.{status-at}
-use Rattle.conduct.proofs.NoChange.{saved-load, unasked, decided-quiet}
+use Rattle.spec_policy.specs.Bytes.{Bytes, put, Small}
+use Rattle.spec_policy.specs.Records.{mostNodes}
+use Rattle.spec_policy.specs.Tree.{Tree, regulated, tree}
+use Rattle.spec_policy.proofs.ByteLaws.{put-none}
+use Rattle.spec_check.specs.Passed.{Passed}
+use Rattle.spec_check.proofs.Numbers.{root-number}
+use Rattle.spec_turns.specs.Status.{Status, statusNumber, statusOf, isRunning}
+use Rattle.spec_turns.specs.State.{State, status}
+use Rattle.spec_turns.specs.Process.{Process, Out, outcome, trace, items}
+use Rattle.spec_turns.specs.Turn.{Phase, before, after, isAsked, quiet, verdict, phase, fresh, closing, Request, opening, offer, close, call}
+use Rattle.spec_turns.specs.Events.{eventOf, events, eventBytes}
+use Rattle.spec_turns.specs.Saved.{stateSize, statusAt, load, saved, fits}
+use Rattle.spec_turns.specs.Entries.{carriedOut, carried}
+use Rattle.laws_turns.proofs.Fits.{status-at}
+use Rattle.laws_turns.proofs.NoChange.{saved-load, unasked, decided-quiet}
 use Rattle.turn_paths.specs.Memory.{Mem, held}
 use Rattle.turn_paths.proofs.Frames.{held-same}
 use Rattle.turn_memory.proofs.CellLaws.{view-same}
@@ -110,9 +110,8 @@ root-read : (policy state : Bytes) → statusOf (statusAt state 0) ≡ status (l
 root-read policy state = ap (λ (i : ℕ). statusOf (statusAt state i)) (sym (root-number policy)) ∙ status-at (tree policy) state
 
 -- as the code reads it
-pub asks-root : (policy state : Bytes) (a : Action) {b : ℕ} {v w : Bool} {r : ActionSet} → b ≡ number state 0 1 → v ≡ isRunning (statusOf b) → w ≡ has r a
+pub asks-root : (policy state : Bytes) (a : Action) {b : ℕ} {v w : Bool} {r : ActionSet} → b ≡ statusAt state 0 → v ≡ isRunning (statusOf b) → w ≡ has r a
     → r ≡ regulated (tree policy) → (v && w) ≡ (isRunning (statusOf (statusAt state 0)) && has (regulated (tree policy)) a)
-unfolding statusAt
 asks-root policy state a e f g h =
     ap₂ (λ (x y : Bool). x && y) (f ∙ ap (λ (k : ℕ). isRunning (statusOf k)) e) (g ∙ ap (λ (r : ActionSet). has r a) h)
 
@@ -130,7 +129,7 @@ offer-asked policy state a e h =
 
 -- "accepted with no change": where it is not, every byte of the state is as it was
 pub stayed : (policy state room : Bytes) {room′ : Bytes} → Passed policy → length state ≡ stateSize → Small state → T (fits policy state) → (a : Action) {b : ℕ}
-    → (isRunning (statusOf (statusAt state 0)) && has (regulated (tree policy)) a) ≡ false → b ≡ number state 0 1
+    → (isRunning (statusOf (statusAt state 0)) && has (regulated (tree policy)) a) ≡ false → b ≡ statusAt state 0
     → room′ ≡ put room 0 (eventBytes (eventOf (verdict false a))) → Gave (carriedOut policy (offer a) state room) (Answered 1 b) state room′
 unfolding carriedOut carried spoken verdict quiet items trace outcome events eventOf
 stayed policy state room {room′} ok size small fit a {b} e f g =
@@ -141,8 +140,8 @@ stayed policy state room {room′} ok size small fit a {b} e f g =
 
 -- "Closing a decided root emits nothing and answers its status."
 pub closed : (policy state room : Bytes) → Passed policy → length state ≡ stateSize → Small state → T (fits policy state) → {b : ℕ} {v : Bool}
-    → b ≡ number state 0 1 → v ≡ isRunning (statusOf b) → v ≡ false → Gave (carriedOut policy close state room) (Answered 0 b) state room
-unfolding carriedOut carried call spoken quiet items trace outcome events eventBytes statusAt
+    → b ≡ statusAt state 0 → v ≡ isRunning (statusOf b) → v ≡ false → Gave (carriedOut policy close state room) (Answered 0 b) state room
+unfolding carriedOut carried call spoken quiet items trace outcome events eventBytes
 closed policy state room ok size small fit {b} f g e =
     let t : Tree = tree policy in
     let same : state ≡ saved t (load t state) = sym (saved-load policy ok state size small fit) in

@@ -1,3 +1,1 @@
 pub mod CallLaws
-mod Apart
-mod Made

@@ -5,12 +5,13 @@ use mathlib.Core.Bool.{Bool, true, _&&_}
 use lib.Dec.{T}
 use lib.ListN.{length}
 use Rattle.actions.specs.Sets.{has}
-use Rattle.policy.specs.Bytes.{Bytes}
-use Rattle.policy.specs.Records.{nodeCount, stepCount}
-use Rattle.policy.specs.Tree.{regulated, tree}
-use Rattle.rules.specs.Passed.{Passed}
-use Rattle.turns.specs.Status.{statusOf, isRunning}
-use Rattle.turns.specs.Saved.{statusAt, fits}
+use Rattle.spec_policy.specs.Bytes.{Bytes}
+use Rattle.spec_policy.specs.Records.{nodeCount, stepCount}
+use Rattle.spec_policy.specs.Tree.{regulated, tree}
+use Rattle.spec_check.specs.Passed.{Passed}
+use Rattle.spec_turns.specs.Status.{statusOf, isRunning}
+use Rattle.spec_turns.specs.Saved.{stateSize, statusAt, fits}
+use Rattle.spec_turns.specs.Entries.{eventRoom}
 use Rattle.call_answer.specs.declared.Call.{Call}
 use Rattle.call_answer.specs.declared.Call.the-variants.{Open, Offer, Close}
 
@@ -28,8 +29,8 @@ pub record Counted (policy : Bytes) (nodes steps : ℕ) : Type 0 where
 -- None of the refusals 1 to 12 applies that the call has.
 pub record Allowed (policy state room : Bytes) (call : Call) : Type 0 where
   pub passed : Passed policy
-  pub state-size : length state ≡ 248
-  pub event-room : 512 ≤ length room
+  pub state-size : length state ≡ stateSize
+  pub event-room : eventRoom ≤ length room
   pub reads : T (readable call policy state)
 
 -- Is the root asked? "Only a running node that regulates a is asked"; opening and closing are about no action.

@@ -3,12 +3,12 @@ ghost use mathlib.Core.Path.{_≡_};
 ghost use mathlib.Core.List.{[]};
 ghost use Prim.Native.Nat.{_≤_};
 ghost use lib.ListN.{length};
-ghost use Rattle.policy.specs.Tree.{regulated, tree};
-ghost use Rattle.rules.specs.Passed.{Passed};
-ghost use Rattle.turns.specs.Turn as spec;
-ghost use Rattle.turns.specs.Turn.{opening};
-ghost use Rattle.turns.specs.Saved.{stateSize};
-ghost use Rattle.turns.specs.Entries.{carried, carriedOut};
+ghost use Rattle.spec_policy.specs.Tree.{regulated, tree};
+ghost use Rattle.spec_check.specs.Passed.{Passed};
+ghost use Rattle.spec_turns.specs.Turn as spec;
+ghost use Rattle.spec_turns.specs.Turn.{opening};
+ghost use Rattle.spec_turns.specs.Saved.{stateSize};
+ghost use Rattle.spec_turns.specs.Entries.{eventRoom, carried, carriedOut};
 ghost use Rattle.turn_paths.specs.Memory.{held};
 ghost use Rattle.turn_memory.specs.Words.{wordCount, view};
 ghost use Rattle.turn_memory.specs.Phases.{phaseOf};
@@ -24,14 +24,14 @@ use call_answer::finish;
 use call_answer::say;
 use call_offer::play;
 use call_phase::run_phase;
-use reading::byte;
+use file_records::nodes_of;
+use file_records::steps_of;
 use turn_rest::awaken::awaken;
 use turn_rest::awaken::wake;
 use turn_sides::AFTER;
-use turn_sides::is_running;
+use turn_state::is_running;
+use turn_state::saved_status;
 use turn_tables::prepare;
-use views::PolicyView;
-use views::view_of;
 
 // The closing phase, as a number: see turn_memory.
 const CLOSING: u8 = 65;
@@ -48,7 +48,7 @@ pub fn carry_action(
     requires { ⌜ Allowed (now policy) (now state) (now events) (Offer action) × (set .bits ≡ regulated (tree (now policy))) ⌝ }
     ensures { λ r. ⌜ Gave (carriedOut (now (policy .entry)) (spec.offer action) (now (state .entry)) (now (events .entry))) r (now (state .exit)) (now (events .exit)) ⌝ }
 {
-    let status = byte(state, 0);
+    let status = saved_status(state, 0);
     if is_running(status) & set.has(action) {
         return carry_out(policy, state, events, Call::Offer(action));
     }
@@ -56,20 +56,14 @@ pub fn carry_action(
     Answer::Answered(1, status)
 }
 
-// A call on the caller's file, state and events: through a view of the file.
+// A call on the caller's file, state and events. The file's counts are read here, once for the whole call.
 pub fn carry_out(policy: &[u8], state: &mut [u8], events: &mut [u8], call: Call) -> Answer
     requires { ⌜ Runs (now policy) (now state) (now events) call ⌝ }
     ensures { λ r. ⌜ Gave (carriedOut (now (policy .entry)) (asked call) (now (state .entry)) (now (events .entry))) r (now (state .exit)) (now (events .exit)) ⌝ }
 {
-    carry(view_of(policy), state, events, call)
-}
-
-// What follows takes the file and its counts, not the view: the borrow checker covers no function that holds one.
-fn carry<'a>(view: PolicyView<'a>, state: &mut [u8], events: &mut [u8], call: Call) -> Answer
-    requires { ⌜ Counted (now (view .file)) (view .nodes) (view .steps) × Runs (now (view .file)) (now state) (now events) call ⌝ }
-    ensures { λ r. ⌜ Gave (carriedOut (now (view .entry .file)) (asked call) (now (state .entry)) (now (events .entry))) r (now (state .exit)) (now (events .exit)) ⌝ }
-{
-    carry_counted(view.file, view.nodes, view.steps, state, events, call)
+    let nodes = nodes_of(policy);
+    let steps = steps_of(policy);
+    carry_counted(policy, nodes, steps, state, events, call)
 }
 
 fn carry_counted(
@@ -116,7 +110,7 @@ fn carry_close(
     requires { ⌜ Counted (now policy) nodes steps × Runs (now policy) (now state) (now events) Close ⌝ }
     ensures { λ r. ⌜ Gave (carriedOut (now (policy .entry)) spec.close (now (state .entry)) (now (events .entry))) r (now (state .exit)) (now (events .exit)) ⌝ }
 {
-    let status = byte(state, 0);
+    let status = saved_status(state, 0);
     if !is_running(status) {
         return Answer::Answered(0, status);
     }
@@ -135,7 +129,7 @@ fn one_phase(
     events: &mut [u8],
     phase: u8,
 ) -> Answer
-    requires { ⌜ (Passed (now policy) × Counted (now policy) nodes steps) × ((length (now mem) ≡ wordCount) × ((length (now state) ≡ stateSize) × (512 ≤ length (now events)))) ⌝ }
+    requires { ⌜ (Passed (now policy) × Counted (now policy) nodes steps) × ((length (now mem) ≡ wordCount) × ((length (now state) ≡ stateSize) × (eventRoom ≤ length (now events)))) ⌝ }
     requires { ⌜ Tells (now mem) [] ⌝ }
     ensures { λ r. ⌜ Gave (carried (tree (now (policy .entry))) (spec.phase (tree (now (policy .entry))) (phaseOf phase) (held (tree (now (policy .entry))) (view (now (mem .entry))))) (now (events .entry))) r (now (state .exit)) (now (events .exit)) ⌝ }
 {

@@ -4,10 +4,10 @@ use native.Mathlib.Omega.{arith}
 use mathlib.Core.Path.{_≡_, refl, sym, ap, _∙_}
 use mathlib.Core.List.{List, [], _∷_, _++_}
 use lib.ListN.{length, length-append}
-use Rattle.policy.specs.Bytes.{Bytes, put}
-use Rattle.policy.proofs.ByteLaws.{put-append}
-use Rattle.conduct.proofs.Bounds.{two-each}
-use Rattle.turns.specs.Events.{Event, accepted, suppressed, inserted, eventBytes}
+use Rattle.spec_policy.specs.Bytes.{Bytes, put}
+use Rattle.spec_policy.proofs.ByteLaws.{put-append}
+use Rattle.laws_turns.proofs.Bounds.{two-each}
+use Rattle.spec_turns.specs.Events.{Event, accepted, suppressed, inserted, eventBytes}
 use Rattle.call_answer.specs.Ends.{Added}
 
 bytes-append : (es fs : List Event) → eventBytes (es ++ fs) ≡ eventBytes es ++ eventBytes fs

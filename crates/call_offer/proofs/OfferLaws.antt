@@ -8,18 +8,18 @@ use lib.ListN.{length}
 use Rattle.actions.specs.Sets.{Action, has}
 use Rattle.actions.proofs.Tests.{of-yes, yes-of, and-right}
 use Rattle.actions.proofs.SetLaws.{has-low}
-use Rattle.policy.specs.Bytes.{Bytes}
-use Rattle.policy.specs.Tree.{Tree, regulated, tree}
-use Rattle.rules.specs.Passed.{Passed}
-use Rattle.rules.proofs.Numbers.{root-number}
-use Rattle.lawful.proofs.LawfulTree.{lawful, spread-255}
-use Rattle.turns.specs.Status.{Status, isRunning, isHalted}
-use Rattle.turns.specs.State.{State, status}
-use Rattle.turns.specs.Process.{Item, Out, Process, stop, does, both, then, outcome, trace, items}
-use Rattle.turns.specs.Turn.{Phase, before, after, isAsked, perhaps, verdict, phase, offer, call}
-use Rattle.turns.specs.Events.{Event, eventOf, events}
-use Rattle.conduct.proofs.Count.{events-append}
-use Rattle.conduct.proofs.Spread.{turn-bound, events-count}
+use Rattle.spec_policy.specs.Bytes.{Bytes}
+use Rattle.spec_policy.specs.Tree.{Tree, regulated, tree}
+use Rattle.spec_check.specs.Passed.{Passed}
+use Rattle.spec_check.proofs.Numbers.{root-number}
+use Rattle.laws_check.proofs.LawfulTree.{lawful, spread-255}
+use Rattle.spec_turns.specs.Status.{Status, isRunning, isHalted}
+use Rattle.spec_turns.specs.State.{State, status}
+use Rattle.spec_turns.specs.Process.{Item, Out, Process, stop, does, both, then, outcome, trace, items}
+use Rattle.spec_turns.specs.Turn.{Phase, before, after, isAsked, perhaps, verdict, phase, offer, call}
+use Rattle.spec_turns.specs.Events.{Event, eventOf, events}
+use Rattle.laws_turns.proofs.Count.{events-append}
+use Rattle.laws_turns.proofs.Spread.{turn-bound, events-count}
 use Rattle.turn_paths.specs.Memory.{Mem, held}
 use Rattle.turn_paths.proofs.Begin.{held-status}
 use Rattle.turn_memory.specs.Phases.{phaseOf}

@@ -7,17 +7,17 @@ use mathlib.Core.List.{List, [], map}
 use lib.Dec.{eqb, ltb}
 use lib.ListN.{length, getD, length-map}
 use Rattle.actions.specs.Sets.{Action}
-use Rattle.policy.specs.Bytes.{Bytes, put}
-use Rattle.policy.specs.Tree.{Tree, treeAt, tree}
-use Rattle.rules.specs.Passed.{Passed}
-use Rattle.rules.proofs.Numbers.{tree-top}
-use Rattle.lawful.proofs.LawfulTree.{lawful, spread-255}
-use Rattle.turns.specs.State.{State}
-use Rattle.turns.specs.Process.{Item, Out, outcome}
-use Rattle.turns.specs.Turn.{Phase, phase}
-use Rattle.turns.specs.Events.{Event, inserted, eventBytes}
-use Rattle.conduct.proofs.Spread.{phase-bound, events-count}
-use Rattle.conduct.proofs.Throughout.{phase-no-verdict}
+use Rattle.spec_policy.specs.Bytes.{Bytes, put}
+use Rattle.spec_policy.specs.Tree.{Tree, treeAt, tree}
+use Rattle.spec_check.specs.Passed.{Passed}
+use Rattle.spec_check.proofs.Numbers.{tree-top}
+use Rattle.laws_check.proofs.LawfulTree.{lawful, spread-255}
+use Rattle.spec_turns.specs.State.{State}
+use Rattle.spec_turns.specs.Process.{Item, Out, outcome}
+use Rattle.spec_turns.specs.Turn.{Phase, phase}
+use Rattle.spec_turns.specs.Events.{Event, inserted, eventBytes}
+use Rattle.laws_turns.proofs.Spread.{phase-bound, events-count}
+use Rattle.laws_turns.proofs.Throughout.{phase-no-verdict}
 use Rattle.turn_paths.specs.Run.{halts, first}
 use Rattle.turn_paths.specs.Memory.{Mem, held, ranOf}
 use Rattle.turn_paths.specs.Paths.{Feeder, done, Turned}

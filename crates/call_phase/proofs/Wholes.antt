@@ -2,13 +2,13 @@
 -- Assumes nothing.
 use mathlib.Core.Path.{_≡_, refl, sym, ap, ap₂, _∙_}
 use mathlib.Core.List.{List, [], _∷_, _++_, map}
-use Rattle.policy.specs.Tree.{Tree}
-use Rattle.turns.specs.State.{State}
-use Rattle.turns.specs.Process.{Item, ran, lets, sups, accepts, suppresses, Out, Process, stop, does, both, outcome, trace, items}
-use Rattle.turns.specs.Turn.{Phase, phase}
-use Rattle.turns.specs.Events.{Event, inserted, eventOf, events}
-use Rattle.turns.proofs.Safe.{All, noVerdict}
-use Rattle.conduct.proofs.Count.{events-append}
+use Rattle.spec_policy.specs.Tree.{Tree}
+use Rattle.spec_turns.specs.State.{State}
+use Rattle.spec_turns.specs.Process.{Item, ran, lets, sups, accepts, suppresses, Out, Process, stop, does, both, outcome, trace, items}
+use Rattle.spec_turns.specs.Turn.{Phase, phase}
+use Rattle.spec_turns.specs.Events.{Event, inserted, eventOf, events}
+use Rattle.spec_turns.proofs.Safe.{All, noVerdict}
+use Rattle.laws_turns.proofs.Count.{events-append}
 use Rattle.turn_paths.specs.Run.{Run, halts, goes, andThen, flat, first}
 use Rattle.turn_paths.specs.Memory.{ranOf}
 use Rattle.turn_node.specs.Turns.{letsIn}

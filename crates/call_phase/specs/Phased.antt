@@ -4,13 +4,13 @@ use mathlib.Core.Path.{_≡_}
 use mathlib.Core.Bool.{Bool}
 use mathlib.Core.List.{List, []}
 use lib.ListN.{length}
-use Rattle.policy.specs.Bytes.{Bytes}
-use Rattle.policy.specs.Tree.{Tree}
-use Rattle.rules.specs.Passed.{Passed}
-use Rattle.turns.specs.State.{State}
-use Rattle.turns.specs.Process.{Process, trace, items, outcome}
-use Rattle.turns.specs.Turn.{Phase, phase}
-use Rattle.turns.specs.Events.{Event, events}
+use Rattle.spec_policy.specs.Bytes.{Bytes}
+use Rattle.spec_policy.specs.Tree.{Tree}
+use Rattle.spec_check.specs.Passed.{Passed}
+use Rattle.spec_turns.specs.State.{State}
+use Rattle.spec_turns.specs.Process.{Process, trace, items, outcome}
+use Rattle.spec_turns.specs.Turn.{Phase, phase}
+use Rattle.spec_turns.specs.Events.{Event, events}
 use Rattle.turn_paths.specs.Memory.{Mem, held}
 use Rattle.turn_memory.specs.Words.{Words, wordCount}
 use Rattle.turn_memory.specs.Told.{Tells}

@@ -1,7 +1,7 @@
 // One phase of the root, and its inserts as events.
 ghost use Prim.Native.Nat.{_+_, _*_, _≤_};
 ghost use lib.ListN.{length};
-ghost use Rattle.policy.specs.Tree.{tree};
+ghost use Rattle.spec_policy.specs.Tree.{tree};
 ghost use Rattle.turn_paths.specs.Memory.{held};
 ghost use Rattle.turn_memory.specs.Words.{view};
 ghost use Rattle.turn_memory.specs.Phases.{phaseOf};

@@ -13,17 +13,17 @@ use Rattle.actions.specs.Sets.{ActionSet, has, EMPTY, union}
 use Rattle.actions.specs.declared.ActionSet.{ActionSet as Set}
 use Rattle.actions.proofs.SetLaws.{union-end, has-union}
 use Rattle.actions.proofs.Tests.{true-not-false, yes-of, of-yes, and-left, and-right, and-true}
-use Rattle.policy.specs.Lists.{one}
-use Rattle.policy.specs.Steps.{Step, halt, isNext, isIns}
-use Rattle.rules.specs.Possible.{joinAt, passOn, branchesTaken}
-use Rattle.rules.specs.Interference.{stepEffects}
-use Rattle.rules.specs.Modes.{Mark, stepped, modeFits}
-use Rattle.rules.proofs.Ahead.{in-or-out}
-use Rattle.modes.specs.Marks.{Agrees, StepLed, NextsBefore}
-use Rattle.modes.specs.declared.Led.{Led}
-use Rattle.modes.specs.declared.Marks.{Marks}
-use Rattle.possible.proofs.PossibleLaws.{join-length}
-use Rattle.targets.proofs.TargetLaws.{tested, tested-all}
+use Rattle.spec_policy.specs.Lists.{one}
+use Rattle.spec_policy.specs.Steps.{Step, halt, isNext, isIns}
+use Rattle.spec_check.specs.Possible.{joinAt, passOn, branchesTaken}
+use Rattle.spec_check.specs.Interference.{stepEffects}
+use Rattle.spec_check.specs.Modes.{Mark, stepped, modeFits}
+use Rattle.spec_check.proofs.Ahead.{in-or-out}
+use Rattle.check_modes.specs.Marks.{Agrees, StepLed, NextsBefore}
+use Rattle.check_modes.specs.declared.Led.{Led}
+use Rattle.check_modes.specs.declared.Marks.{Marks}
+use Rattle.check_possible.proofs.PossibleLaws.{join-length}
+use Rattle.check_targets.proofs.TargetLaws.{tested, tested-all}
 use Rattle.check_steps.specs.declared.Walk.{Walk}
 use Rattle.check_steps.specs.Met.{Stands, LedOn, Went, Met, Meets}
 

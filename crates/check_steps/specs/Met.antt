@@ -6,14 +6,14 @@ use mathlib.Core.List.{List, [], _∷_}
 use lib.Dec.{T, eqb}
 use lib.ListN.{length, getD}
 use Rattle.actions.specs.Sets.{ActionSet, has, EMPTY, union}
-use Rattle.policy.specs.Lists.{one, every}
-use Rattle.policy.specs.Steps.{Step, halt, targets, isNext, isIns}
-use Rattle.rules.specs.Targets.{targetFits, asksWithin}
-use Rattle.rules.specs.Modes.{Mark, stepped, modeFits}
-use Rattle.rules.specs.Possible.{passOn, branchesTaken}
-use Rattle.rules.specs.Interference.{stepEffects}
-use Rattle.modes.specs.Marks.{Agrees, NextsBefore}
-use Rattle.modes.specs.declared.Led.{Led}
+use Rattle.spec_policy.specs.Lists.{one, every}
+use Rattle.spec_policy.specs.Steps.{Step, halt, targets, isNext, isIns}
+use Rattle.spec_check.specs.Targets.{targetFits, asksWithin}
+use Rattle.spec_check.specs.Modes.{Mark, stepped, modeFits}
+use Rattle.spec_check.specs.Possible.{passOn, branchesTaken}
+use Rattle.spec_check.specs.Interference.{stepEffects}
+use Rattle.check_modes.specs.Marks.{Agrees, NextsBefore}
+use Rattle.check_modes.specs.declared.Led.{Led}
 use Rattle.check_steps.specs.declared.Walk.{Walk}
 
 -- what is asked: the walk stands at an offset of a leaf of so many steps

@@ -6,25 +6,26 @@ ghost use mathlib.Core.Bool.{false};
 ghost use mathlib.Core.List.{List};
 ghost use lib.ListN.{getD};
 ghost use Rattle.actions.specs.Sets.{EMPTY};
-ghost use Rattle.policy.specs.Steps as steps;
-ghost use Rattle.reading.specs.Kinds.{insOf, acaseOf, spendOf, stepMeant};
+ghost use Rattle.spec_policy.specs.Steps as steps;
+ghost use Rattle.file_records.specs.Kinds.{insOf, acaseOf, spendOf, stepMeant};
 ghost use Rattle.check_steps.specs.Met.{Asks, AsksAll, LedOn, Meets};
 use actions::ActionSet;
-use modes::Led;
-use modes::Marks;
-use modes::lead_acase;
-use modes::lead_end;
-use modes::lead_halt;
-use modes::lead_ins;
-use modes::lead_next;
-use modes::lead_ok;
-use modes::lead_spend;
-use modes::lead_sup;
-use modes::only_bit;
-use possible::join_at;
-use reading::Operand;
-use reading::Step;
-use targets::target_fits;
+use check_modes::Led;
+use check_modes::Marks;
+use check_modes::lead_acase;
+use check_modes::lead_end;
+use check_modes::lead_halt;
+use check_modes::lead_ins;
+use check_modes::lead_next;
+use check_modes::lead_ok;
+use check_modes::lead_spend;
+use check_modes::lead_sup;
+use check_modes::only_bit;
+use check_possible::join_at;
+use check_targets::target_fits;
+use file_records::MOST_LEAF_STEPS;
+use file_records::Operand;
+use file_records::Step;
 
 // What the walk has found so far: of the last step rule 6; of all steps rule 7, but for the nexts, and rule 8; the marks of the modes, the
 // offsets of the nexts, the effect set and the number of ins steps.
@@ -79,7 +80,7 @@ fn next_step(
     set: ActionSet,
     take: usize,
     done: usize,
-    sets: &mut [u64; 64],
+    sets: &mut [u64; MOST_LEAF_STEPS],
 ) -> Walk
     requires { ⌜ AsksAll w o count (now sets) ⌝ }
     ensures { λ r. ⌜ Meets (set .bits) o count (steps.next take done) w r (now (sets .entry)) (now (sets .exit)) ⌝ }
@@ -137,7 +138,14 @@ fn sup_step(w: Walk, o: usize, count: usize, to: usize, p: ActionSet) -> Walk
     }
 }
 
-fn ins_step(w: Walk, o: usize, count: usize, action: u8, to: usize, sets: &mut [u64; 64]) -> Walk
+fn ins_step(
+    w: Walk,
+    o: usize,
+    count: usize,
+    action: u8,
+    to: usize,
+    sets: &mut [u64; MOST_LEAF_STEPS],
+) -> Walk
     requires { ⌜ AsksAll w o count (now sets) ⌝ }
     ensures { λ x. ⌜ ((r : ℕ) → Meets r o count (steps.ins action to) w x (now (sets .entry)) (now (sets .exit))) ⌝ }
 {
@@ -167,7 +175,7 @@ fn spend_step(
     count: usize,
     yes: usize,
     otherwise: usize,
-    sets: &mut [u64; 64],
+    sets: &mut [u64; MOST_LEAF_STEPS],
 ) -> Walk
     requires { ⌜ AsksAll w o count (now sets) ⌝ }
     ensures { λ x. ⌜ ((r n : ℕ) → Meets r o count (steps.spend n yes otherwise) w x (now (sets .entry)) (now (sets .exit))) ⌝ }
@@ -192,7 +200,7 @@ fn acase_step(
     asked: ActionSet,
     yes: usize,
     otherwise: usize,
-    sets: &mut [u64; 64],
+    sets: &mut [u64; MOST_LEAF_STEPS],
 ) -> Walk
     requires { ⌜ AsksAll w o count (now sets) ⌝ }
     ensures { λ x. ⌜ Meets (set .bits) o count (steps.acase (asked .bits) yes otherwise) w x (now (sets .entry)) (now (sets .exit)) ⌝ }
@@ -241,7 +249,14 @@ fn halt_step(w: Walk, o: usize, count: usize) -> Walk
 
 // ---- a value of the step enum. An operand of another kind than its step's is read as a halt: no file holds one.
 
-fn ins_of(w: Walk, o: usize, count: usize, x: Operand, to: u8, sets: &mut [u64; 64]) -> Walk
+fn ins_of(
+    w: Walk,
+    o: usize,
+    count: usize,
+    x: Operand,
+    to: u8,
+    sets: &mut [u64; MOST_LEAF_STEPS],
+) -> Walk
     requires { ⌜ AsksAll w o count (now sets) ⌝ }
     ensures { λ x′. ⌜ ((r : ℕ) → Meets r o count (insOf x to) w x′ (now (sets .entry)) (now (sets .exit))) ⌝ }
 {
@@ -260,7 +275,7 @@ fn acase_of(
     x: Operand,
     yes: u8,
     otherwise: u8,
-    sets: &mut [u64; 64],
+    sets: &mut [u64; MOST_LEAF_STEPS],
 ) -> Walk
     requires { ⌜ AsksAll w o count (now sets) ⌝ }
     ensures { λ x′. ⌜ Meets (set .bits) o count (acaseOf x yes otherwise) w x′ (now (sets .entry)) (now (sets .exit)) ⌝ }
@@ -279,7 +294,7 @@ fn spend_of(
     x: Operand,
     yes: u8,
     otherwise: u8,
-    sets: &mut [u64; 64],
+    sets: &mut [u64; MOST_LEAF_STEPS],
 ) -> Walk
     requires { ⌜ AsksAll w o count (now sets) ⌝ }
     ensures { λ x′. ⌜ ((r : ℕ) → Meets r o count (spendOf x yes otherwise) w x′ (now (sets .entry)) (now (sets .exit))) ⌝ }
@@ -298,7 +313,7 @@ pub fn meet(
     count: usize,
     set: ActionSet,
     step: Step,
-    sets: &mut [u64; 64],
+    sets: &mut [u64; MOST_LEAF_STEPS],
 ) -> Walk
     requires { ⌜ AsksAll w o count (now sets) ⌝ }
     ensures { λ x. ⌜ Meets (set .bits) o count (stepMeant step) w x (now (sets .entry)) (now (sets .exit)) ⌝ }

@@ -2,18 +2,18 @@
 use Prim.Native.Nat.{ℕ, _+_, _*_}
 use native.Mathlib.Omega.{arith}
 use mathlib.Core.Path.{_≡_, refl, sym, ap, subst}
-use Rattle.policy.specs.Bytes.{Bytes}
-use Rattle.rules.specs.Check.{Answer as Checked, passes, refused}
-use Rattle.turns.specs.Status.{statusNumber}
-use Rattle.turns.specs.Turn.{Request}
-use Rattle.turns.specs.Entries.{Reply, answers, refuses, entry}
-use Rattle.conduct.proofs.Bounds.{answered-emits}
+use Rattle.spec_policy.specs.Bytes.{Bytes}
+use Rattle.spec_check.specs.Check.{Answer as Checked, passes, refused}
+use Rattle.spec_turns.specs.Status.{statusNumber}
+use Rattle.spec_turns.specs.Turn.{Request}
+use Rattle.spec_turns.specs.Entries.{Reply, answers, refuses, entry}
+use Rattle.laws_turns.proofs.Bounds.{answered-emits}
 use Rattle.call_answer.specs.declared.Answer as guard
 use Rattle.call_answer.specs.declared.Answer.the-variants.{Answered, Refused}
 use Rattle.call_answer.specs.Replies.{spoken}
-use Rattle.files.specs.Writing as writing
-use Rattle.writing.specs.Replies as replies
-use Rattle.writing.specs.declared.Written.the-variants as written
+use Rattle.spec_writer.specs.Writing as writing
+use Rattle.file_writer.specs.Replies as replies
+use Rattle.file_writer.specs.declared.Written.the-variants as written
 use Rattle.fretmere.specs.Words.{Says, refusalWord, word, Few, sizeWord}
 
 pub answered-word : (n s : ℕ) (x : Reply) → Answered n s ≡ spoken x → s * 65536 + n ≡ word x

@@ -1,13 +1,13 @@
 -- What the C functions return: the entry points' answers, each in one word. Assumes nothing.
 use Prim.Native.Nat.{ℕ, _+_, _*_, _≤_}
 use mathlib.Core.Path.{_≡_}
-use Rattle.policy.specs.Bytes.{Bytes}
-use Rattle.rules.specs.Check.{Answer, passes, refused}
-use Rattle.turns.specs.Status.{statusNumber}
-use Rattle.turns.specs.Entries.{Reply, answers, refuses, Result}
+use Rattle.spec_policy.specs.Bytes.{Bytes}
+use Rattle.spec_check.specs.Check.{Answer, passes, refused}
+use Rattle.spec_turns.specs.Status.{statusNumber}
+use Rattle.spec_turns.specs.Entries.{Reply, answers, refuses, Result}
 use Rattle.call_answer.specs.declared.Answer as guard
 use Rattle.call_answer.specs.declared.Answer.the-variants.{Answered, Refused}
-use Rattle.files.specs.Writing as writing
+use Rattle.spec_writer.specs.Writing as writing
 
 -- The check: zero and both sets, or the refusal's number, and then both stay as they were.
 abbrev pub Says : Answer → ℕ → (a b a′ b′ : ℕ) → Type 0

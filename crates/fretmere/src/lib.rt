@@ -1,19 +1,19 @@
 // The static library for C: the four entry points and the writer on the caller's buffers, each answer in one word.
 ghost use mathlib.Core.Path.{_≡_};
-ghost use Rattle.rules.specs.Check.{check};
-ghost use Rattle.turns.specs.Entries.{Reply, opens, offers, closes};
+ghost use Rattle.spec_check.specs.Check.{check};
+ghost use Rattle.spec_turns.specs.Entries.{Reply, opens, offers, closes};
 ghost use Rattle.call_answer.specs.Replies.{spoken};
-ghost use Rattle.files.specs.Writing as writing;
-ghost use Rattle.writing.specs.Replies as replies;
+ghost use Rattle.spec_writer.specs.Writing as writing;
+ghost use Rattle.file_writer.specs.Replies as replies;
 ghost use Rattle.fretmere.specs.Words.{Says, refusalWord, Few, word, Gave, sizeWord, Produced};
 use call_answer::Answer;
-use checking::Checked;
-use checking::check;
+use check_policy::Checked;
+use check_policy::check;
+use file_writer::Written;
+use file_writer::write;
 use guard::close;
 use guard::offer;
 use guard::open;
-use writing::Written;
-use writing::write;
 
 // Zero, and the two sets written; or the refusal's number, and nothing written.
 #[no_mangle]

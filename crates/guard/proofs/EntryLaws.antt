@@ -8,13 +8,13 @@ use lib.ListN.{length}
 use borrow.Author.Tests.{lt-leb, le-leb}
 use Rattle.actions.specs.Sets.{isAction}
 use Rattle.actions.proofs.Tests.{not-not}
-use Rattle.policy.specs.Bytes.{Bytes}
-use Rattle.rules.specs.Check.{passes, refused, check}
-use Rattle.rules.proofs.Passed.{passed}
-use Rattle.turns.specs.Turn.{Request, close}
-use Rattle.turns.specs.Saved.{fits}
-use Rattle.turns.specs.Entries.{Result, refusal, carriedOut, broken11, broken12, broken13, Refusal, refusals, unless, entry}
-use Rattle.conduct.proofs.Answered.{kept-11}
+use Rattle.spec_policy.specs.Bytes.{Bytes}
+use Rattle.spec_check.specs.Check.{passes, refused, check}
+use Rattle.spec_check.proofs.Passed.{passed}
+use Rattle.spec_turns.specs.Turn.{Request, close}
+use Rattle.spec_turns.specs.Saved.{stateSize, fits}
+use Rattle.spec_turns.specs.Entries.{eventRoom, Result, refusal, carriedOut, broken11, broken12, broken13, Refusal, refusals, unless, entry}
+use Rattle.laws_turns.proofs.Answered.{kept-11}
 use Rattle.call_answer.specs.declared.Answer.{Answer}
 use Rattle.call_answer.specs.declared.Answer.the-variants as answers
 use Rattle.call_answer.specs.declared.Call.{Call}
@@ -23,7 +23,7 @@ use Rattle.call_answer.specs.Replies.{spoken, Gave}
 
 -- ---- what a refusal that does not apply says
 
-pub room-enough : (state room : Bytes) → broken11 state room ≡ false → (length state ≡ 248) × (512 ≤ length room)
+pub room-enough : (state room : Bytes) → broken11 state room ≡ false → (length state ≡ stateSize) × (eventRoom ≤ length room)
 room-enough state room e = let k = kept-11 [] close state room e in (k .state-size, k .event-room)
 
 pub state-fits : (policy state : Bytes) → broken12 policy state ≡ false → T (fits policy state)

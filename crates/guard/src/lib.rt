@@ -1,16 +1,17 @@
-// The entry points: open, offer and close, on slices that the caller lends. The check is crate checking's.
-ghost use Rattle.turns.specs.Entries.{opens, offers, closes};
+// The entry points: open, offer and close, on slices that the caller lends. The check stands in crate `check_policy`.
+ghost use Rattle.spec_turns.specs.Entries.{opens, offers, closes};
 ghost use Rattle.call_answer.specs.Replies.{Gave};
+use actions::LAST_ACTION;
 use call_answer::Answer;
 use call_answer::Call;
 use call_carry::carry_action;
 use call_carry::carry_out;
-use checking::Checked;
-use checking::check;
-use checking::number;
-use refusing::halted;
-use refusing::short;
-use refusing::unfit;
+use call_refusals::broken11;
+use call_refusals::broken12;
+use call_refusals::broken14;
+use check_policy::Checked;
+use check_policy::check;
+use check_policy::number;
 
 // Opens the policy: the state buffer need hold nothing beforehand.
 pub fn open(policy: &[u8], state: &mut [u8], events: &mut [u8]) -> Answer
@@ -20,7 +21,7 @@ pub fn open(policy: &[u8], state: &mut [u8], events: &mut [u8]) -> Answer
     let Checked::Passed(_, _) = checked else {
         return Answer::Refused(number(checked));
     };
-    if short(state, events) {
+    if broken11(state, events) {
         return Answer::Refused(11);
     }
     carry_out(policy, state, events, Call::Open)
@@ -34,14 +35,14 @@ pub fn offer(policy: &[u8], state: &mut [u8], events: &mut [u8], action: u8) -> 
     let Checked::Passed(set, _) = checked else {
         return Answer::Refused(number(checked));
     };
-    if short(state, events) {
+    if broken11(state, events) {
         return Answer::Refused(11);
     }
-    if unfit(policy, state) {
+    if broken12(policy, state) {
         return Answer::Refused(12);
     }
-    let halted = halted(state);
-    if action > 63 {
+    let halted = broken14(state);
+    if action > LAST_ACTION {
         return Answer::Refused(13);
     }
     if halted {
@@ -58,10 +59,10 @@ pub fn close(policy: &[u8], state: &mut [u8], events: &mut [u8]) -> Answer
     let Checked::Passed(_, _) = checked else {
         return Answer::Refused(number(checked));
     };
-    if short(state, events) {
+    if broken11(state, events) {
         return Answer::Refused(11);
     }
-    if unfit(policy, state) {
+    if broken12(policy, state) {
         return Answer::Refused(12);
     }
     carry_out(policy, state, events, Call::Close)

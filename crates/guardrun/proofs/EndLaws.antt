@@ -7,7 +7,7 @@ use mathlib.Core.Bool.{Bool, true, false}
 use lib.Dec.{ltb}
 use borrow.Author.Tests.{lt-ltb, le-ltb, ltb-false}
 use borrow.Rule.Slice.PartMut.{putMid, midOf, mid-len, take-put}
-use Rattle.policy.specs.Bytes.{Bytes, spelt, number}
+use Rattle.spec_policy.specs.Bytes.{Bytes, spelt, number}
 use Rattle.guardrun.specs.Printed.{policyEnd}
 
 pub end-least : (n : ℕ) → n < 2 → 2 ≡ policyEnd n

@@ -1,17 +1,17 @@
 -- What is said of a call, from what is said of its answer. Assumes nothing.
 use Prim.Native.Nat.{ℕ}
 use mathlib.Core.Path.{_≡_, sym, ap₂, _∙_, subst}
-use Rattle.policy.specs.Bytes.{Bytes}
-use Rattle.turns.specs.Status.{statusOf}
-use Rattle.turns.specs.Turn.{Request}
-use Rattle.turns.specs.Entries.{Reply, answers, refuses, Result}
+use Rattle.spec_policy.specs.Bytes.{Bytes}
+use Rattle.spec_turns.specs.Status.{statusOf}
+use Rattle.spec_turns.specs.Turn.{Request}
+use Rattle.spec_turns.specs.Entries.{Reply, answers, refuses, Result}
 use Rattle.call_answer.specs.Replies.{Gave}
 use Rattle.call_answer.specs.declared.Answer.{Answer}
 use Rattle.call_answer.specs.declared.Answer.the-variants.{Answered, Refused}
 use Rattle.call_answer.proofs.Heard.{heard, heard-refusal}
-use Rattle.reporting.specs.Said.{Said, said}
-use Rattle.reporting.specs.Speaks.{Speaks}
-use Rattle.reporting.specs.declared.Told.{Told}
+use Rattle.run_report.specs.Said.{Said, said}
+use Rattle.run_report.specs.Speaks.{Speaks}
+use Rattle.run_report.specs.declared.Told.{Told}
 use Rattle.guardrun.specs.Spoke.{Spoke}
 
 module _ {x : Result} {q : Request} {r : Answer} {saved room before after : Bytes} {t : Told} (g : Gave x r saved room) where

@@ -1,13 +1,13 @@
 -- The definitions print what is told of every run, by computation. Assumes nothing.
 use mathlib.Core.Path.{refl}
 use Rattle.actions.specs.Opened.{opened as sets}
-use Rattle.policy.specs.Opened.{opened as files}
-use Rattle.rules.specs.Opened.{opened as rules}
-use Rattle.turns.specs.Opened.{opened as turns}
-use Rattle.text.specs.Opened.{opened as texts}
-use Rattle.spelling.specs.Refusal.{refusal}
-use Rattle.reporting.specs.Lines.{line, word, kind, lines}
-use Rattle.reporting.specs.Said.{heading, isLast, ending, lastIfRefused, said}
+use Rattle.spec_policy.specs.Opened.{opened as files}
+use Rattle.spec_check.specs.Opened.{opened as rules}
+use Rattle.spec_turns.specs.Opened.{opened as turns}
+use Rattle.spec_text.specs.Opened.{opened as texts}
+use Rattle.text_append.specs.Refusal.{refusal}
+use Rattle.run_report.specs.Lines.{line, word, kind, lines}
+use Rattle.run_report.specs.Said.{heading, isLast, ending, lastIfRefused, said}
 use Rattle.guardrun.specs.Printed.{told, goesOn, policyEnd, printed}
 use Rattle.guardrun.specs.Worked.{cases, AllPrinted}
 

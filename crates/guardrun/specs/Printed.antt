@@ -4,11 +4,12 @@ use mathlib.Core.Bool.{true, false}
 use mathlib.Core.List.{List, [], _∷_, _++_}
 use lib.Dec.{ltb}
 use lib.ListN.{take, drop, replicate}
-use Rattle.policy.specs.Bytes.{Bytes, number}
-use Rattle.turns.specs.Turn.{Request, opening, offer, close}
-use Rattle.turns.specs.Saved.{stateSize}
-use Rattle.turns.specs.Entries.{eventRoom, entry}
-use Rattle.reporting.specs.Said.{said}
+use Rattle.spec_policy.specs.Bytes.{Bytes, number}
+use Rattle.spec_turns.specs.Turn.{Request, opening, offer, close}
+use Rattle.spec_turns.specs.Saved.{stateSize}
+use Rattle.spec_turns.specs.Entries.{eventRoom, entry}
+use Rattle.run_report.specs.Said.{said}
+use Rattle.spec_policy.specs.Records.{mostFile}
 
 -- a call's text, and unless it is the last, what follows from the bytes that the call left
 unfoldable pub told : Bytes → Request → Bytes → Bytes → (Bytes → Bytes → Bytes) → Bytes
@@ -24,7 +25,7 @@ goesOn policy (a ∷ rest) state room = told policy (offer a) state room (goesOn
 
 -- "a policy (the first two bytes say how many bytes, at most 6,646 taken)": where it ends, the two bytes with it
 unfoldable pub policyEnd : ℕ → ℕ
-policyEnd n = elim (ltb n 2) [ true ↦ 2 | false ↦ elim (ltb 6646 n) [ true ↦ 6646 | false ↦ n ] ]
+policyEnd n = elim (ltb n 2) [ true ↦ 2 | false ↦ elim (ltb mostFile n) [ true ↦ mostFile | false ↦ n ] ]
 
 -- All that is printed, from all that is read.
 unfoldable pub printed : Bytes → Bytes

@@ -3,9 +3,9 @@ use Prim.Native.String.{String}
 use mathlib.Core.Path.{_≡_}
 use mathlib.Core.List.{List, [], _∷_, _++_, map}
 use lib.ListN.{take}
-use Rattle.policy.specs.Bytes.{Bytes}
-use Rattle.policy.specs.Parts.{alone, pair, top, bottom, L, «V», W, built}
-use Rattle.text.specs.Words.{ascii}
+use Rattle.spec_policy.specs.Bytes.{Bytes}
+use Rattle.spec_policy.specs.Parts.{alone, pair, top, bottom, L, «V», W, built}
+use Rattle.spec_text.specs.Words.{ascii}
 use Rattle.guardrun.specs.Printed.{printed}
 
 pub record Case : Type 0 where

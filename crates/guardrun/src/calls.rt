@@ -1,5 +1,5 @@
 // A call made, and what is printed of it.
-ghost use Rattle.turns.specs.Entries.{entry};
+ghost use Rattle.spec_turns.specs.Entries.{entry};
 ghost use Rattle.call_answer.specs.Requests.{asked};
 ghost use Rattle.call_answer.specs.Replies.{Gave};
 ghost use Rattle.guardrun.specs.Spoke.{Spoke};
@@ -8,9 +8,9 @@ use call_answer::Call;
 use guard::close;
 use guard::offer;
 use guard::open;
-use reporting::Told;
-use reporting::answered;
-use reporting::refused;
+use run_report::Told;
+use run_report::answered;
+use run_report::refused;
 
 fn ask(policy: &[u8], state: &mut [u8], events: &mut [u8], request: Call) -> Answer
     ensures { λ r. ⌜ Gave (entry (now (policy .entry)) (asked request) (now (state .entry)) (now (events .entry))) r (now (state .exit)) (now (events .exit)) ⌝ }

@@ -6,36 +6,40 @@ ghost use mathlib.Core.Path.{_≡_};
 ghost use mathlib.Core.Bool.{true, false};
 ghost use Prim.Native.Nat.{_≤_};
 ghost use lib.ListN.{length};
-ghost use Rattle.policy.specs.Bytes.{number};
+ghost use Rattle.spec_policy.specs.Bytes.{number};
 ghost use Rattle.guardrun.specs.Printed.{policyEnd};
+ghost use Rattle.spec_policy.specs.Records.{mostFile};
 use crate::calls::tell;
 use call_answer::Call;
+use file_records::MOST_FILE;
+use file_records::word16;
 use libc::STDIN_FILENO;
 use libc::STDOUT_FILENO;
-use reading::word16;
-use reporting::Told;
+use run_report::Told;
+use turn_state::STATE_SIZE;
+use turn_told::EVENT_ROOM;
 
 mod calls;
 
 // "the first two bytes say how many bytes, at most 6,646 taken": where the policy ends, the two bytes with it.
 fn policy_end(policy: &[u8]) -> usize
     requires { ⌜ 2 ≤ length (now policy) ⌝ }
-    ensures { λ r. ⌜ (r ≡ policyEnd (number (now (policy .entry)) 0 2)) × (2 ≤ r) × (r ≤ 6646) ⌝ }
+    ensures { λ r. ⌜ (r ≡ policyEnd (number (now (policy .entry)) 0 2)) × (2 ≤ r) × (r ≤ mostFile) ⌝ }
 {
     let said = word16(policy, 0) as usize;
     if said < 2 {
         return 2;
     }
-    if said > 6646 {
-        return 6646;
+    if said > MOST_FILE {
+        return MOST_FILE;
     }
     said
 }
 
 // Reads the policy, and no byte after it; answers how many bytes there were.
 fn read_policy(policy: &mut [u8]) -> usize
-    requires { ⌜ 6646 ≤ length (now policy) ⌝ }
-    ensures { λ r. ⌜ (r ≤ policyEnd (number (now (policy .exit)) 0 2)) × (r ≤ 6646) ⌝ }
+    requires { ⌜ mostFile ≤ length (now policy) ⌝ }
+    ensures { λ r. ⌜ (r ≤ policyEnd (number (now (policy .exit)) 0 2)) × (r ≤ mostFile) ⌝ }
 {
     let front = io::read_full(STDIN_FILENO, &mut policy[..2]);
     if front < 2 {
@@ -70,8 +74,8 @@ fn next() -> Call {
 
 // A proved loop has to end, and nothing says that the input does: the loop counts down from a number that no run uses up.
 fn run(policy: &[u8]) {
-    let mut state = [0u8; 248];
-    let mut events = [0u8; 512];
+    let mut state = [0u8; STATE_SIZE];
+    let mut events = [0u8; EVENT_ROOM];
     let mut text = io::buffer();
     let mut request = Call::Open;
     let mut left = u64::MAX;
@@ -86,10 +90,10 @@ fn run(policy: &[u8]) {
 }
 
 // Room for the longest policy.
-fn room() -> [u8; 6646]
-    ensures { λ r. ⌜ 6646 ≡ length r ⌝ }
+fn room() -> [u8; MOST_FILE]
+    ensures { λ r. ⌜ mostFile ≡ length r ⌝ }
 {
-    [0; 6646]
+    [0; MOST_FILE]
 }
 
 fn main() {

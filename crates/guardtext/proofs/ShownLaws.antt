@@ -5,21 +5,21 @@ use mathlib.Core.Path.{_≡_, refl, sym, ap, ap₂, _∙_, subst}
 use lib.ListN.{length, take, drop, length-take}
 use borrow.Author.Tests.{lt-ltb, le-ltb, le-leb}
 use Rattle.actions.specs.Sets.{ActionSet}
-use Rattle.policy.specs.Bytes.{Bytes, number}
-use Rattle.policy.specs.Records.{nodeCount, stepCount, nodePlace, rowPlace, nodeBytes, stepBytes}
-use Rattle.policy.proofs.ByteLaws.{Small}
-use Rattle.rules.specs.Check.{Answer, passes, check}
-use Rattle.rules.specs.Passed.{Passed}
-use Rattle.rules.proofs.Passed.{passed}
-use Rattle.rules.proofs.Rows.{CountsFit, counts-fit}
-use Rattle.text.specs.Printing.{Print, text, noText, printed}
-use Rattle.text.proofs.Printable.{read-printed}
-use Rattle.spelling.specs.Refusal.{refusal}
-use Rattle.printing.specs.declared.Printed.{Printed}
-use Rattle.printing.specs.declared.Printed.the-variants.{Text, NoText, Short}
-use Rattle.printing.specs.Printing.{given, Gave}
-use Rattle.printing.proofs.PrintLaws.{text-inside}
-use Rattle.printing.proofs.Lengths.{printed-less}
+use Rattle.spec_policy.specs.Bytes.{Bytes, Small}
+use Rattle.spec_policy.specs.Records.{nodeCount, stepCount, nodePlace, rowPlace, nodeBytes, stepBytes}
+use Rattle.spec_check.specs.Check.{Answer, passes, check}
+use Rattle.spec_check.specs.Passed.{Passed}
+use Rattle.spec_check.proofs.Passed.{passed}
+use Rattle.spec_check.proofs.Rows.{counts-fit}
+use Rattle.spec_check.specs.Layout.{CountsFit}
+use Rattle.spec_text.specs.Printing.{Print, text, noText, printed}
+use Rattle.spec_text.proofs.Printable.{read-printed}
+use Rattle.text_append.specs.Refusal.{refusal}
+use Rattle.text_print.specs.declared.Printed.{Printed}
+use Rattle.text_print.specs.declared.Printed.the-variants.{Text, NoText, Short}
+use Rattle.text_print.specs.Printing.{given, Gave}
+use Rattle.text_print.proofs.PrintLaws.{text-inside}
+use Rattle.text_print.proofs.Lengths.{printed-less}
 use Rattle.guardtext.specs.Shown.{textRoom, answered, shown, Shows}
 
 pub gave-as : (before : Bytes) {p q : Print} {after : Bytes} {r : Printed} → p ≡ q → Gave (given p before) r after → Gave (given q before) r after
@@ -29,20 +29,34 @@ gave-as before {after = after} {r = r} e g = subst (λ (x : Print). Gave (given 
 pub inside : (p : Print) (before : Bytes) {after : Bytes} {r : Printed} {n : ℕ} → Gave (given p before) r after → r ≡ Text n → length after ≡ length before → n ≤ length after
 inside p before {after} {n = n} g e h = subst (λ (k : ℕ). n ≤ k) (sym h) (text-inside p before (subst (λ (y : Printed). Gave (given p before) y after) e g))
 
--- the records lie in a file that passes
-pub placed : (file : Bytes) (b : ℕ) → Passed file → b ≡ number file 3 1 → 6 + 16 * b ≤ length file
-unfolding nodeCount rowPlace nodePlace
-placed file b ok e = let c : CountsFit file = counts-fit file (ok .kept3) in omega (arith, c .long)
+-- a file that passes has its front, and its records lie behind it: `at` is where the steps' begin
+module _ (file : Bytes) (ok : Passed file) where
+  counts : CountsFit file
+  counts = counts-fit file (ok .kept3)
 
-pub records-are : (file : Bytes) (b : ℕ) → Passed file → b ≡ number file 3 1
-    → printed (take (6 + 16 * b - 6) (drop 6 file)) (take (length file - (6 + 16 * b)) (drop (6 + 16 * b) file)) ≡ printed (nodeBytes file) (stepBytes file)
-unfolding nodeBytes stepBytes nodeCount rowPlace nodePlace
-records-are file b ok e =
-    let c : CountsFit file = counts-fit file (ok .kept3) in
-    let n : 6 + 16 * b - 6 ≡ 16 * nodeCount file = omega arith in
-    let m : length file - (6 + 16 * b) ≡ 12 * stepCount file = omega (arith, c .long) in
-    ap₂ (λ (k l : ℕ). printed (take k (drop 6 file)) (take l (drop (6 + 16 * b) file))) n m
-    ∙ ap (λ (k : ℕ). printed (nodeBytes file) (take (12 * stepCount file) (drop (6 + 16 * k) file))) e
+  pub has-front : 6 ≤ length file
+  unfolding rowPlace nodePlace
+  has-front = omega (arith, counts .long)
+
+  pub few-nodes : (n : ℕ) → n ≡ nodeCount file → n ≤ 255
+  few-nodes n e = omega (arith, counts .few-nodes)
+
+  module _ (at : ℕ) (e : at ≡ nodePlace (nodeCount file)) where
+    pub after-front : 6 ≤ at
+    unfolding nodePlace
+    after-front = omega (arith, e)
+
+    pub in-file : at ≤ length file
+    unfolding rowPlace nodePlace
+    in-file = omega (arith, e, counts .long)
+
+    pub records-are : printed (take (at - 6) (drop 6 file)) (take (length file - at) (drop at file)) ≡ printed (nodeBytes file) (stepBytes file)
+    unfolding nodeBytes stepBytes rowPlace nodePlace
+    records-are =
+        let n : at - 6 ≡ 16 * nodeCount file = omega (arith, e) in
+        let m : length file - at ≡ 12 * stepCount file = omega (arith, e, counts .long) in
+        ap₂ (λ (k l : ℕ). printed (take k (drop 6 file)) (take l (drop at file))) n m
+        ∙ ap (λ (k : ℕ). printed (take (16 * nodeCount file) (drop 6 file)) (take (12 * stepCount file) (drop k file))) e
 
 pub shown-long : (input : Bytes) → 6646 < length input → text (refusal 1) ≡ shown input
 unfolding shown

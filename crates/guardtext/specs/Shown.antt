@@ -4,12 +4,12 @@ use mathlib.Core.Path.{_≡_}
 use mathlib.Core.Bool.{true, false}
 use lib.Dec.{ltb}
 use lib.ListN.{length}
-use Rattle.policy.specs.Bytes.{Bytes}
-use Rattle.policy.specs.Records.{nodeBytes, stepBytes}
-use Rattle.rules.specs.Check.{Answer, passes, refused, check}
-use Rattle.text.specs.Printing.{Print, text, printed}
-use Rattle.text.specs.Files.{ThereAndBack}
-use Rattle.spelling.specs.Refusal.{refusal}
+use Rattle.spec_policy.specs.Bytes.{Bytes}
+use Rattle.spec_policy.specs.Records.{mostFile, nodeBytes, stepBytes}
+use Rattle.spec_check.specs.Check.{Answer, passes, refused, check}
+use Rattle.spec_text.specs.Printing.{Print, text, printed}
+use Rattle.spec_text.specs.Files.{ThereAndBack}
+use Rattle.text_append.specs.Refusal.{refusal}
 
 -- No file that passes has a longer text.
 abbrev pub textRoom : ℕ
@@ -21,7 +21,7 @@ answered (refused n) file = text (refusal n)
 
 -- More than 6,646 bytes are no policy, whatever the first two say.
 unfoldable pub shown : Bytes → Print
-shown input = elim (ltb 6646 (length input)) [ true ↦ text (refusal 1) | false ↦ answered (check input) input ]
+shown input = elim (ltb mostFile (length input)) [ true ↦ text (refusal 1) | false ↦ answered (check input) input ]
 
 -- What is shown of the file is a text, and from that text its records are read.
 pub record Shows (file : Bytes) : Type 0 where

@@ -4,25 +4,29 @@
 ghost use mathlib.Core.Path.{_≡_};
 ghost use Prim.Native.Nat.{_≤_};
 ghost use lib.ListN.{length};
-ghost use Rattle.policy.specs.Records.{nodeBytes, stepBytes};
-ghost use Rattle.text.specs.Printing.{text, printed};
-ghost use Rattle.spelling.specs.Refusal.{refusal};
-ghost use Rattle.printing.specs.Printing.{given, Gave};
-ghost use Rattle.rules.specs.Passed.{Passed};
+ghost use Rattle.spec_policy.specs.Records.{nodeBytes, stepBytes};
+ghost use Rattle.spec_text.specs.Printing.{text, printed};
+ghost use Rattle.text_append.specs.Refusal.{refusal};
+ghost use Rattle.text_print.specs.Printing.{given, Gave};
+ghost use Rattle.spec_check.specs.Passed.{Passed};
 ghost use Rattle.guardtext.specs.Shown.{textRoom, shown};
-use checking::Checked;
-use checking::check;
+use check_policy::Checked;
+use check_policy::check;
+use file_records::FRONT_SIZE;
+use file_records::MOST_FILE;
+use file_records::byte;
+use file_records::node_place;
+use file_records::nodes_of;
 use libc::STDIN_FILENO;
 use libc::STDOUT_FILENO;
-use printing::Printed;
-use printing::print;
-use reading::byte;
+use text_print::Printed;
+use text_print::print;
 
 fn refuse(room: &mut [u8], n: u8) -> Printed
     requires { ⌜ textRoom ≤ length (now room) ⌝ }
     ensures { λ r. ⌜ Gave (given (text (refusal n)) (now (room .entry))) r (now (room .exit)) × (r ≡ Printed.Short → ⊥) ⌝ }
 {
-    Printed::Text(spelling::refuse(room, 0, n))
+    Printed::Text(text_append::refuse(room, 0, n))
 }
 
 // The records of a file that passes lie one after another behind its front.
@@ -30,8 +34,8 @@ fn print_records(policy: &[u8], room: &mut [u8]) -> Printed
     requires { ⌜ Passed (now policy) × (textRoom ≤ length (now room)) ⌝ }
     ensures { λ r. ⌜ Gave (given (printed (nodeBytes (now (policy .entry))) (stepBytes (now (policy .entry)))) (now (room .entry))) r (now (room .exit)) × (r ≡ Printed.Short → ⊥) ⌝ }
 {
-    let steps = 6 + 16 * byte(policy, 3) as usize;
-    print(&policy[6..steps], &policy[steps..], room)
+    let steps = node_place(nodes_of(policy));
+    print(&policy[FRONT_SIZE..steps], &policy[steps..], room)
 }
 
 // Puts what is printed of the input into the room, which is long enough.
@@ -39,7 +43,7 @@ fn tell(input: &[u8], room: &mut [u8]) -> Printed
     requires { ⌜ textRoom ≤ length (now room) ⌝ }
     ensures { λ r. ⌜ Gave (given (shown (now (input .entry))) (now (room .entry))) r (now (room .exit)) × (r ≡ Printed.Short → ⊥) ⌝ }
 {
-    if input.len() > 6646 {
+    if input.len() > MOST_FILE {
         return refuse(room, 1);
     }
     match check(input) {

@@ -9,31 +9,31 @@ use lib.ListN.{length, take, replicate, length-replicate}
 use lib.Seq.{take-all}
 use borrow.Author.Tests.{lt-ltb, le-ltb, ltb-true, ltb-false, le-leb}
 use Rattle.actions.proofs.Tests.{true-not-false, of-yes, and-left, and-right}
-use Rattle.policy.specs.Bytes.{Bytes, put}
-use Rattle.policy.proofs.ByteLaws.{put-length}
-use Rattle.rules.specs.Check as check
-use Rattle.text.specs.Words.{ascii, lines}
-use Rattle.text.specs.Forms.{size}
-use Rattle.text.specs.Reading as text
-use Rattle.text.specs.Reading.{records, badLine, readText, answer}
-use Rattle.measuring.specs.Measures.{sized, sizesRead}
-use Rattle.transcribing.specs.Transcribed.{Result, gave, transcribed}
-use Rattle.transcribing.specs.declared.Answer.{Answer}
-use Rattle.transcribing.specs.declared.Answer.the-variants.{Read, BadLine, Short}
-use Rattle.transcribing.proofs.ReadLaws.{Counts, counts}
-use Rattle.files.specs.Writing as writing
-use Rattle.files.specs.Writing.{holds, Reply, wrote, refuses, writes, written, laid, after}
-use Rattle.files.specs.Lent.{lendable, Lent}
-use Rattle.writing.specs.Replies.{spoken, Gave}
-use Rattle.writing.specs.declared.Written.{Written}
-use Rattle.writing.specs.declared.Written.the-variants.{Wrote, Refused}
-use Rattle.files.proofs.Files.{written-length, lendable-lent, unlent, by-check, taken-again}
-use Rattle.files.proofs.ReadBack.{read-back}
-use Rattle.spelling.specs.Added.{Added, Tells}
-use Rattle.spelling.specs.Refusal.{refusal}
-use Rattle.spelling.proofs.AddedLaws.{tells}
-use Rattle.blaming.specs.Expected.{lineSays, faultIn}
-use Rattle.blaming.proofs.FaultLaws.{says-short}
+use Rattle.spec_policy.specs.Bytes.{Bytes, put}
+use Rattle.spec_policy.proofs.ByteLaws.{put-length}
+use Rattle.spec_check.specs.Check as check
+use Rattle.spec_text.specs.Words.{ascii, lines}
+use Rattle.spec_text.specs.Forms.{size}
+use Rattle.spec_text.specs.Reading as text
+use Rattle.spec_text.specs.Reading.{records, badLine, readText, answer}
+use Rattle.text_measure.specs.Measures.{sized, sizesRead}
+use Rattle.text_read.specs.Transcribed.{Result, gave, transcribed}
+use Rattle.text_read.specs.declared.Answer.{Answer}
+use Rattle.text_read.specs.declared.Answer.the-variants.{Read, BadLine, Short}
+use Rattle.text_read.proofs.ReadLaws.{Counts, counts}
+use Rattle.spec_writer.specs.Writing as writing
+use Rattle.spec_writer.specs.Writing.{holds, Reply, wrote, refuses, writes, written, laid, after}
+use Rattle.spec_writer.specs.Lent.{lendable, Lent}
+use Rattle.file_writer.specs.Replies.{spoken, Gave}
+use Rattle.file_writer.specs.declared.Written.{Written}
+use Rattle.file_writer.specs.declared.Written.the-variants.{Wrote, Refused}
+use Rattle.spec_writer.proofs.Files.{written-length, lendable-lent, unlent, by-check, taken-again}
+use Rattle.spec_writer.proofs.ReadBack.{read-back}
+use Rattle.text_append.specs.Added.{Added, Tells}
+use Rattle.text_append.specs.Refusal.{refusal}
+use Rattle.text_append.proofs.AddedLaws.{tells}
+use Rattle.text_fault.specs.Expected.{lineSays, faultIn}
+use Rattle.text_fault.proofs.FaultLaws.{says-short}
 use Rattle.guardwrite.specs.Said.{filed, answered, mostText, mostSays, tooLong, outRoom, madeOver, made}
 
 pub instead : {b x y : Bytes} {r : ℕ} → Tells b r x → x ≡ y → Tells b r y

@@ -3,12 +3,13 @@ use Prim.Native.Nat.{ℕ}
 use mathlib.Core.Bool.{true, false}
 use lib.Dec.{ltb}
 use lib.ListN.{length, take, replicate}
-use Rattle.policy.specs.Bytes.{Bytes}
-use Rattle.text.specs.Words.{ascii, lines}
-use Rattle.text.specs.Reading.{Read, records, badLine, readText}
-use Rattle.spelling.specs.Refusal.{refusal}
-use Rattle.blaming.specs.Expected.{lineSays, faultIn}
-use Rattle.files.specs.Writing.{wrote, refuses, Result, writes}
+use Rattle.spec_policy.specs.Bytes.{Bytes}
+use Rattle.spec_text.specs.Words.{ascii, lines}
+use Rattle.spec_text.specs.Reading.{Read, records, badLine, readText}
+use Rattle.text_append.specs.Refusal.{refusal}
+use Rattle.text_fault.specs.Expected.{lineSays, faultIn}
+use Rattle.spec_writer.specs.Writing.{wrote, refuses, Result, writes}
+use Rattle.spec_policy.specs.Records.{mostFile}
 
 -- the file, or a refusal and no byte of a file
 unfoldable pub filed : Result → Bytes
@@ -35,7 +36,7 @@ madeOver room text = elim (ltb mostText (length text)) [ true ↦ tooLong text |
 
 -- "length is 6 + 16n + 12m", of 31 nodes and 512 steps
 abbrev pub outRoom : ℕ
-outRoom = 6646
+outRoom = mostFile
 
 -- All that is printed, from all that is read: the same over any output of so many bytes (`tell`).
 unfoldable pub made : Bytes → Bytes

@@ -2,10 +2,10 @@
 use Prim.Native.String.{String}
 use mathlib.Core.Path.{_≡_}
 use mathlib.Core.List.{List, [], _∷_, _++_, map}
-use Rattle.policy.specs.Bytes.{Bytes}
-use Rattle.policy.specs.Parts.{alone, pair, top, L, «V», W, built}
-use Rattle.text.specs.Words.{ascii}
-use Rattle.text.specs.Examples.{repeated}
+use Rattle.spec_policy.specs.Bytes.{Bytes}
+use Rattle.spec_policy.specs.Parts.{alone, pair, top, L, «V», W, built}
+use Rattle.spec_text.specs.Words.{ascii}
+use Rattle.spec_text.specs.Examples.{repeated}
 use Rattle.guardwrite.specs.Said.{made}
 
 pub record Case : Type 0 where

@@ -5,6 +5,7 @@ ghost use mathlib.Core.Path.{_≡_};
 ghost use lib.ListN.{length};
 ghost use Rattle.guardwrite.specs.Said.{outRoom};
 use crate::told::tell;
+use file_records::MOST_FILE;
 use libc::STDIN_FILENO;
 use libc::STDOUT_FILENO;
 
@@ -18,10 +19,10 @@ fn text_room() -> [u8; 262145]
 }
 
 // Room for the longest file.
-fn file_room() -> [u8; 6646]
+fn file_room() -> [u8; MOST_FILE]
     ensures { λ r. ⌜ outRoom ≡ length r ⌝ }
 {
-    [0; 6646]
+    [0; MOST_FILE]
 }
 
 fn main() {

@@ -2,20 +2,22 @@
 ghost use mathlib.Core.Path.{_≡_};
 ghost use Prim.Native.Nat.{_≤_, _<_};
 ghost use lib.ListN.{length};
-ghost use Rattle.text.specs.Reading.{readText};
-ghost use Rattle.files.specs.Writing.{writes};
-ghost use Rattle.spelling.specs.Added.{Tells};
-ghost use Rattle.spelling.specs.Refusal.{refusal};
+ghost use Rattle.spec_text.specs.Reading.{readText};
+ghost use Rattle.spec_writer.specs.Writing.{writes};
+ghost use Rattle.text_append.specs.Added.{Tells};
+ghost use Rattle.text_append.specs.Refusal.{refusal};
 ghost use Rattle.guardwrite.specs.Said.{filed, answered, mostText, tooLong, outRoom, made};
-use blaming::bad_line;
-use blaming::begin;
-use blaming::line_count;
-use spelling::append;
-use spelling::refuse;
-use transcribing::Answer;
-use transcribing::read;
-use writing::Written;
-use writing::write;
+use file_records::NODE_SIZE;
+use file_records::STEP_SIZE;
+use file_writer::Written;
+use file_writer::write;
+use text_append::append;
+use text_append::refuse;
+use text_fault::bad_line;
+use text_fault::begin;
+use text_fault::line_count;
+use text_read::Answer;
+use text_read::read;
 
 fn refused(n: u8, out: &mut [u8]) -> usize
     requires { ⌜ outRoom ≤ length (now out) ⌝ }
@@ -61,7 +63,7 @@ fn fill(text: &[u8], nodes: &mut [u8], steps: &mut [u8], out: &mut [u8]) -> usiz
 {
     let answer = read(text, nodes, steps);
     match answer {
-        Answer::Read(n, m) => file(&nodes[..16 * n], &steps[..12 * m], out),
+        Answer::Read(n, m) => file(&nodes[..NODE_SIZE * n], &steps[..STEP_SIZE * m], out),
         Answer::BadLine(line) => bad_line(text, line, out),
         Answer::Short => refused(3, out),
     }

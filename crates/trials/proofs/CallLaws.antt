@@ -7,14 +7,14 @@ use lib.ListN.{length, take, drop}
 use lib.Seq.{take-at, take-length, take-append-seam, length-take-le}
 use borrow.Author.Tests.{eq-eqb, ne-eqb}
 use borrow.Rule.Slice.PartMut.{mid-len}
-use Rattle.policy.specs.Bytes.{Bytes, number}
-use Rattle.turns.specs.Turn.{Request, opening, offer, close}
-use Rattle.turns.specs.Entries.{entry}
+use Rattle.spec_policy.specs.Bytes.{Bytes, number}
+use Rattle.spec_turns.specs.Turn.{Request, opening, offer, close}
+use Rattle.spec_turns.specs.Entries.{entry}
 use Rattle.call_answer.specs.Replies.{Gave}
 use Rattle.call_answer.specs.declared.Answer.{Answer}
-use Rattle.files.specs.Writing as writing
-use Rattle.writing.specs.Replies as replies
-use Rattle.writing.specs.declared.Written.{Written}
+use Rattle.spec_writer.specs.Writing as writing
+use Rattle.file_writer.specs.Replies as replies
+use Rattle.file_writer.specs.declared.Written.{Written}
 use Rattle.trials.specs.Calls.{fieldEnd, policyEnd, stateEnd, eventsEnd, longest, Placed, part, policyIn, stateIn, eventsIn, request, called, fileCalled, Found, Taken, replyBytes, Answers, sizeBytes, Wrote}
 use Rattle.trials.specs.declared.calls.Parts.{Parts}
 use Rattle.trials.specs.declared.calls.Call.{Call}

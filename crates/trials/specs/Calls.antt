@@ -5,17 +5,17 @@ use mathlib.Core.Bool.{true, false}
 use mathlib.Core.List.{[], _∷_, _++_}
 use lib.Dec.{eqb}
 use lib.ListN.{length, take, drop}
-use Rattle.policy.specs.Bytes.{Bytes, number, spell}
-use Rattle.rules.specs.Check.{Answer, passes, refused}
-use Rattle.turns.specs.Turn.{Request, opening, offer, close}
-use Rattle.turns.specs.Entries.{Result, entry}
+use Rattle.spec_policy.specs.Bytes.{Bytes, number, spell}
+use Rattle.spec_check.specs.Check.{Answer, passes, refused}
+use Rattle.spec_turns.specs.Turn.{Request, opening, offer, close}
+use Rattle.spec_turns.specs.Entries.{Result, entry}
 use Rattle.call_answer.specs.Replies.{spoken}
 use Rattle.call_answer.specs.declared.Answer as guard
 use Rattle.call_answer.specs.declared.Answer.the-variants.{Answered, Refused}
-use Rattle.files.specs.Writing as writing
-use Rattle.writing.specs.Replies as replies
-use Rattle.writing.specs.declared.Written.{Written}
-use Rattle.writing.specs.declared.Written.the-variants as written
+use Rattle.spec_writer.specs.Writing as writing
+use Rattle.file_writer.specs.Replies as replies
+use Rattle.file_writer.specs.declared.Written.{Written}
+use Rattle.file_writer.specs.declared.Written.the-variants as written
 use Rattle.trials.specs.declared.calls.Parts.{Parts}
 use Rattle.trials.specs.declared.calls.Call.{Call}
 use Rattle.trials.specs.declared.calls.Call.the-variants.{Whole, Short}

@@ -2,21 +2,21 @@
 ghost use mathlib.Core.Path.{_≡_};
 ghost use Prim.Native.Nat.{_+_, _-_, _≤_};
 ghost use lib.ListN.{length, take};
-ghost use Rattle.rules.specs.Check.{check};
+ghost use Rattle.spec_check.specs.Check.{check};
 ghost use mathlib.Core.List.{_∷_, _++_};
-ghost use Rattle.policy.specs.Bytes.{spell};
-ghost use Rattle.turns.specs.Entries.{entry};
+ghost use Rattle.spec_policy.specs.Bytes.{spell};
+ghost use Rattle.spec_turns.specs.Entries.{entry};
 ghost use Rattle.call_answer.specs.Replies.{Gave};
 ghost use Rattle.trials.specs.Calls.{longestField, Placed, part, policyIn, request, called, fileCalled, answerBytes, replyBytes, sizeBytes, Answers, Wrote};
 use crate::calls::Parts;
 use call_answer::Answer;
-use checking::Checked;
-use checking::check;
+use check_policy::Checked;
+use check_policy::check;
+use file_writer::Written;
+use file_writer::write;
 use guard::close;
 use guard::offer;
 use guard::open;
-use writing::Written;
-use writing::write;
 
 // A refusal number and two sets, the highest byte first.
 fn spell(refusal: u8, x: u64, y: u64) -> [u8; 17]

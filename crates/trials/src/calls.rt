@@ -3,8 +3,8 @@ ghost use mathlib.Core.Path.{_≡_};
 ghost use Prim.Native.Nat.{_+_, _≤_};
 ghost use lib.ListN.{length};
 ghost use Rattle.trials.specs.Calls.{fieldEnd, Found};
-use reading::byte;
-use reading::word16;
+use file_records::byte;
+use file_records::word16;
 
 // Where the policy, the state and the event buffer end. The policy begins at 3, the others two bytes after the end of the one before.
 pub struct Parts {

@@ -5,10 +5,10 @@ use mathlib.Core.Path.{_≡_, refl, sym, ap, ap₂, _∙_, subst}
 use mathlib.Core.Bool.{Bool, true, false, _&&_, _||_, not}
 use lib.Dec.{eqb}
 use lib.ListN.{length, set}
-use Rattle.policy.specs.Bytes.{Bytes}
-use Rattle.policy.specs.Records.{mostNodes}
-use Rattle.turns.specs.Status.{statusOf, isRunning, isHalted}
-use Rattle.turns.specs.Turn.{Phase, stillAsked}
+use Rattle.spec_policy.specs.Bytes.{Bytes}
+use Rattle.spec_policy.specs.Records.{mostNodes}
+use Rattle.spec_turns.specs.Status.{statusOf, isRunning, isHalted}
+use Rattle.spec_turns.specs.Turn.{Phase, stillAsked}
 use Rattle.turn_paths.specs.Memory.{Cell}
 use Rattle.turn_paths.specs.Choices.{endSup}
 use Rattle.turn_paths.specs.Paths.{done, stopped}

@@ -3,9 +3,9 @@ use Prim.Native.Nat.{ℕ, zero, suc, _+_}
 use mathlib.Core.Path.{_≡_}
 use mathlib.Core.Bool.{true, false, _&&_, _||_, not}
 use lib.Dec.{eqb}
-use Rattle.policy.specs.Bytes.{Bytes}
-use Rattle.turns.specs.Status.{Status, running, statusOf, isRunning, isHalted, joined}
-use Rattle.turns.specs.Turn.{Phase, stillAsked}
+use Rattle.spec_policy.specs.Bytes.{Bytes}
+use Rattle.spec_turns.specs.Status.{Status, running, statusOf, isRunning, isHalted, joined}
+use Rattle.spec_turns.specs.Turn.{Phase, stillAsked}
 use Rattle.turn_paths.specs.Choices.{Settled, joinedIn, endSup}
 use Rattle.turn_paths.specs.Paths.{Ended, done, stopped}
 use Rattle.turn_memory.specs.Words.{Words, view, Only}

@@ -2,7 +2,7 @@
 ghost use mathlib.Core.Path.{_≡_};
 ghost use Prim.Native.Nat.{_<_};
 ghost use lib.ListN.{length, set};
-ghost use Rattle.policy.specs.Records.{mostNodes};
+ghost use Rattle.spec_policy.specs.Records.{mostNodes};
 ghost use Rattle.turn_memory.specs.Words.{wordCount, packed};
 ghost use Rattle.turn_memory.specs.Phases.{phaseOf};
 ghost use Rattle.turn_sides.specs.Sides.{Sided};
@@ -10,14 +10,14 @@ ghost use Rattle.turn_ends.specs.Ends.{SettledAt, ParEnd, SeqEnd, Reread
 use turn_memory::put;
 use turn_memory::status_at;
 use turn_sides::AFTER;
-use turn_sides::RUNNING;
-use turn_sides::is_halted;
-use turn_sides::is_running;
 use turn_sides::join;
 use turn_sides::join_of;
 use turn_sides::joined_at;
 use turn_sides::mark_of;
 use turn_sides::right_of;
+use turn_state::RUNNING;
+use turn_state::is_halted;
+use turn_state::is_running;
 
 // How a phase ended: its action accepted, or suppressed; or, from STOPPED on, a node above was decided by an insert, and no phase beneath it goes on.
 pub const ACCEPTED: usize = 0;

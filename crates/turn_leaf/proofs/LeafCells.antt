@@ -8,13 +8,13 @@ use lib.Dec.{eqb}
 use lib.ListN.{length, getD, set, length-set}
 use lib.Seq.{getD-set-other}
 use Rattle.actions.specs.Sets.{Action, ActionSet}
-use Rattle.policy.specs.Records.{mostNodes}
-use Rattle.policy.specs.Steps.{Step}
-use Rattle.policy.specs.Tree.{leaf}
-use Rattle.turns.specs.Status.{Status, statusOf, isRunning}
-use Rattle.turns.specs.State.{State, at, leafOver}
-use Rattle.turns.specs.Process.{lets}
-use Rattle.turns.specs.Turn.{Phase, isAsked}
+use Rattle.spec_policy.specs.Records.{mostNodes}
+use Rattle.spec_policy.specs.Steps.{Step}
+use Rattle.spec_policy.specs.Tree.{leaf}
+use Rattle.spec_turns.specs.Status.{Status, statusOf, isRunning}
+use Rattle.spec_turns.specs.State.{State, at, leafOver}
+use Rattle.spec_turns.specs.Process.{lets}
+use Rattle.spec_turns.specs.Turn.{Phase, isAsked}
 use Rattle.turn_paths.specs.Run.{halts, goes}
 use Rattle.turn_paths.specs.Memory.{Cell, leafed, held}
 use Rattle.turn_memory.specs.Words.{Only, Words, wordCount, offsetIn, counterIn, packed, view}

@@ -10,19 +10,19 @@ use lib.Dec.{T}
 use lib.ListN.{length, getD}
 use Rattle.actions.specs.Sets.{Action}
 use Rattle.actions.proofs.Tests.{yes-of, of-yes}
-use Rattle.policy.specs.Bytes.{Bytes}
-use Rattle.policy.specs.Steps.{Step, halt, targets, isNext}
-use Rattle.rules.specs.Lawful.{Ahead, AllAhead, Inside, Forward}
-use Rattle.turns.specs.Status.{statusOf}
-use Rattle.turns.specs.Turn as turn
-use Rattle.conduct.proofs.Fuel.{goes-step}
+use Rattle.spec_policy.specs.Bytes.{Bytes}
+use Rattle.spec_policy.specs.Steps.{Step, halt, targets, isNext}
+use Rattle.spec_check.specs.Lawful.{Ahead, AllAhead, Inside, Forward}
+use Rattle.spec_turns.specs.Status.{statusOf}
+use Rattle.spec_turns.specs.Turn as turn
+use Rattle.laws_turns.proofs.Fuel.{goes-step}
 use Rattle.turn_paths.specs.Run.{flat}
 use Rattle.turn_leaf.specs.declared.Move.{Move}
 use Rattle.turn_leaf.specs.declared.Move.the-variants.{On, Ends}
 use Rattle.turn_leaf.specs.declared.Last.{Last}
 use Rattle.turn_leaf.specs.declared.Last.the-variants.{Over}
-use Rattle.reading.specs.Code.{codeAt}
-use Rattle.reading.proofs.CodeLaws.{code-length}
+use Rattle.file_records.specs.Code.{codeAt}
+use Rattle.file_records.proofs.CodeLaws.{code-length}
 use Rattle.turn_leaf.specs.Leaf.{Quietly, goesOn, ends, lasts, follows, target, left, Taken, Passing}
 use Rattle.turn_leaf.proofs.Quiet.{quietly-same, quietly-ran, quietly-then}
 

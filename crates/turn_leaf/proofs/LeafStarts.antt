@@ -8,14 +8,14 @@ use lib.Dec.{eqb, ltb}
 use lib.ListN.{getD}
 use borrow.Author.Tests.{ne-eqb, eqb-true, eqb-false, lt-ltb, le-ltb, ltb-true, ltb-false}
 use Rattle.actions.specs.Sets.{ActionSet}
-use Rattle.policy.specs.Bytes.{Bytes, number}
-use Rattle.policy.specs.Records.{rowAt}
-use Rattle.policy.specs.Steps.{Step, next, ok, sup, ins, acase, spend, end, halt, stepOf}
-use Rattle.policy.specs.Tree.{leaf, numberOf, regulated}
-use Rattle.turns.specs.Status.{Status}
-use Rattle.turns.specs.State.{State, at, offset, counter}
-use Rattle.turns.specs.Turn.{Phase, before, after, closing, takeOf, doneOf, leafWork, isAsked}
-use Rattle.reading.proofs.Rows.{of-kind, by-kind}
+use Rattle.spec_policy.specs.Bytes.{Bytes, number}
+use Rattle.spec_policy.specs.Records.{rowAt}
+use Rattle.spec_policy.specs.Steps.{Step, next, ok, sup, ins, acase, spend, end, halt, stepOf}
+use Rattle.spec_policy.specs.Tree.{leaf, numberOf, regulated}
+use Rattle.spec_turns.specs.Status.{Status}
+use Rattle.spec_turns.specs.State.{State, at, offset, counter}
+use Rattle.spec_turns.specs.Turn.{Phase, before, after, closing, takeOf, doneOf, leafWork, isAsked}
+use Rattle.file_records.proofs.Rows.{of-kind, by-kind}
 use Rattle.turn_paths.specs.Run.{flat}
 use Rattle.turn_paths.specs.Memory.{Mem, leafed, held, ranOf}
 use Rattle.turn_paths.proofs.Begin.{asked-running, asked-works, works}

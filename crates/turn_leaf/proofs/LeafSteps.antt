@@ -6,12 +6,12 @@ use mathlib.Core.Bool.{true, false}
 use mathlib.Core.List.{List, [], _∷_}
 use lib.ListN.{length}
 use Rattle.actions.specs.Sets.{Action, has}
-use Rattle.policy.specs.Steps.{Step, next, ok, sup, ins, acase, spend, end, halt, targets, isNext}
-use Rattle.rules.specs.Lawful.{AllAhead, Inside}
-use Rattle.turns.specs.Status.{statusOf}
-use Rattle.turns.specs.Process.{ran, sups}
-use Rattle.turns.specs.Turn.{quiet, affords, which, stepping}
-use Rattle.turns.specs.Turn as turn
+use Rattle.spec_policy.specs.Steps.{Step, next, ok, sup, ins, acase, spend, end, halt, targets, isNext}
+use Rattle.spec_check.specs.Lawful.{AllAhead, Inside}
+use Rattle.spec_turns.specs.Status.{statusOf}
+use Rattle.spec_turns.specs.Process.{ran, sups}
+use Rattle.spec_turns.specs.Turn.{quiet, affords, which, stepping}
+use Rattle.spec_turns.specs.Turn as turn
 use Rattle.turn_paths.specs.Run.{flat, first}
 use Rattle.turn_paths.specs.Run.{silent, AllSilent}
 use Rattle.turn_leaf.specs.declared.Move.{Move}

@@ -2,7 +2,7 @@
 use Prim.Native.Nat.{ℕ}
 use mathlib.Core.Path.{_≡_, refl, sym, ap, _∙_}
 use mathlib.Core.List.{List, [], _∷_, _++_}
-use Rattle.turns.specs.Process.{Item, ran}
+use Rattle.spec_turns.specs.Process.{Item, ran}
 use Rattle.turn_paths.specs.Run.{Run, goes, first}
 use Rattle.turn_paths.proofs.PathLaws.{first-append}
 use Rattle.turn_paths.specs.Run.{silent, AllSilent}

@@ -6,14 +6,14 @@ use mathlib.Core.List.{List, [], _∷_}
 use lib.Dec.{T}
 use lib.ListN.{length, getD}
 use Rattle.actions.specs.Sets.{Action, ActionSet}
-use Rattle.policy.specs.Steps.{Step, halt, targets, isNext}
-use Rattle.policy.specs.Tree.{leaf}
-use Rattle.rules.specs.Lawful.{AllAhead, Inside, LawfulLeaf}
-use Rattle.turns.specs.Status.{running, statusOf}
-use Rattle.turns.specs.State.{State, at, leafOver}
-use Rattle.turns.specs.Process.{Item, lets}
-use Rattle.turns.specs.Turn.{Phase, before, after, closing, takeOf, doneOf}
-use Rattle.turns.specs.Turn as turn
+use Rattle.spec_policy.specs.Steps.{Step, halt, targets, isNext}
+use Rattle.spec_policy.specs.Tree.{leaf}
+use Rattle.spec_check.specs.Lawful.{AllAhead, Inside, LawfulLeaf}
+use Rattle.spec_turns.specs.Status.{running, statusOf}
+use Rattle.spec_turns.specs.State.{State, at, leafOver}
+use Rattle.spec_turns.specs.Process.{Item, lets}
+use Rattle.spec_turns.specs.Turn.{Phase, before, after, closing, takeOf, doneOf}
+use Rattle.spec_turns.specs.Turn as turn
 use Rattle.turn_paths.specs.Run.{Run, halts, goes, flat, first, AllSilent}
 use Rattle.turn_paths.specs.Memory.{Cell, held, ranOf}
 use Rattle.turn_memory.specs.Words.{Words, view, Only}

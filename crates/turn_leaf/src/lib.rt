@@ -1,25 +1,31 @@
 // A leaf's part of a phase: how it begins, and its run from where it is up to its next insert or to the phase's end.
 ghost use mathlib.Core.Path.{_≡_};
 ghost use mathlib.Core.Bool.{true};
-ghost use Prim.Native.Nat.{ℕ, _+_, _*_, _≤_, _<_};
+ghost use Prim.Native.Nat.{ℕ, _<_};
 ghost use lib.ListN.{length, getD};
-ghost use Rattle.policy.specs.Records.{mostNodes, stepSize};
-ghost use Rattle.policy.specs.Steps.{halt};
-ghost use Rattle.policy.specs.Tree.{leaf};
-ghost use Rattle.turns.specs.Turn.{affords, isAsked};
-ghost use Rattle.reading.specs.Code.{codeAt};
-ghost use Rattle.reading.specs.Kinds.{stepMeant, insOf, acaseOf, spendOf};
+ghost use Rattle.spec_policy.specs.Records.{mostNodes};
+ghost use Rattle.spec_policy.specs.Steps.{halt};
+ghost use Rattle.spec_policy.specs.Tree.{leaf};
+ghost use Rattle.spec_turns.specs.Turn.{affords, isAsked};
+ghost use Rattle.file_records.specs.Code.{codeFrom, StepsIn};
+ghost use Rattle.file_records.specs.Kinds.{stepMeant, insOf, acaseOf, spendOf};
 ghost use Rattle.turn_paths.specs.Memory.{held};
 ghost use Rattle.turn_memory.specs.Words.{wordCount, view};
 ghost use Rattle.turn_memory.specs.Phases.{phaseOf, pendingIn};
 ghost use Rattle.turn_leaf.specs.Leaf.{Taken, Passing, Stopped, leaving, begins, Left, Ran};
-use reading::Operand;
-use reading::Step;
-use reading::byte;
-use reading::step_at;
+use file_records::NEXT;
+use file_records::Operand;
+use file_records::Step;
+use file_view::view_step;
+use file_view::view_step_first;
+use file_view::view_step_kind;
+use file_view::view_step_second;
 use turn_memory::counter_at;
 use turn_memory::offset_at;
 use turn_memory::put;
+use turn_state::ENDED;
+use turn_state::HALTED;
+use turn_state::RUNNING;
 
 // What a leaf's run came to: an insert, after which it goes on; or its phase's end, and whether it suppressed.
 pub enum Progress {
@@ -49,21 +55,10 @@ pub struct Stop {
     pub counter: u64,
 }
 
-const RUNNING: u8 = 1;
-
-const ENDED: u8 = 2;
-
-const HALTED: u8 = 5;
-
 // A cell's mark: the leaf was asked before the verdict and still runs.
 const MARKED: u8 = 1;
 
 const UNMARKED: u8 = 0;
-
-// A step's size in the file, and the kind of a next.
-const STEP: usize = 12;
-
-const NEXT: u8 = 1;
 
 // The phase after the verdict; below it is an action, before its verdict, and above it closing.
 const AFTER: u8 = 64;
@@ -134,9 +129,9 @@ fn one_step(step: Step, action: u8, counter: u64) -> Move
 }
 
 // The leaf goes on, over steps that no one sees, up to what ends its run. Past its last step it halts.
-fn go_on(policy: &[u8], at: usize, count: usize, action: u8, offset: u8, counter: u64) -> Stop
-    requires { ⌜ (at + stepSize * count ≤ length (now policy)) × Passing (codeAt (now policy) at count) ⌝ }
-    ensures { λ r. ⌜ Stopped (codeAt (now (policy .entry)) at count) action offset counter r ⌝ }
+fn go_on(policy: &[u8], first: usize, count: usize, action: u8, offset: u8, counter: u64) -> Stop
+    requires { ⌜ StepsIn (now policy) first count × Passing (codeFrom (now policy) first count) ⌝ }
+    ensures { λ r. ⌜ Stopped (codeFrom (now (policy .entry)) first count) action offset counter r ⌝ }
 {
     if offset as usize >= count {
         return Stop {
@@ -148,8 +143,7 @@ fn go_on(policy: &[u8], at: usize, count: usize, action: u8, offset: u8, counter
     let mut o = offset;
     let mut n = counter;
     loop {
-        let place = o as usize;
-        let step = step_at(policy, at + STEP * place);
+        let step = view_step(policy, first + o as usize);
         let m = one_step(step, action, n);
         match m {
             Move::On(t, k) => {
@@ -170,43 +164,50 @@ fn go_on(policy: &[u8], at: usize, count: usize, action: u8, offset: u8, counter
 // ---- where a phase begins
 
 // Where a next leads when it is left: to its take target, at closing to its done target. What is no next leads nowhere. Only here is a
-// step not read as an enum: of a next that is left one byte is wanted, and the enum's reader then has one caller, which it is compiled into.
-fn leaving(policy: &[u8], at: usize, count: usize, offset: u8, closing: bool) -> u8
-    requires { ⌜ at + stepSize * count ≤ length (now policy) ⌝ }
-    ensures { λ r. ⌜ r ≡ leaving closing (getD (codeAt (now (policy .entry)) at count) offset halt) ⌝ }
+// step not read as an enum: of a next that is left one target is wanted, and the enum's reader then has one caller, which it is compiled into.
+fn leaving(policy: &[u8], first: usize, count: usize, offset: u8, closing: bool) -> u8
+    requires { ⌜ StepsIn (now policy) first count ⌝ }
+    ensures { λ r. ⌜ r ≡ leaving closing (getD (codeFrom (now (policy .entry)) first count) offset halt) ⌝ }
 {
-    let place = offset as usize;
-    if place >= count {
+    let ahead = offset as usize;
+    if ahead >= count {
         return 0;
     }
-    let row = at + STEP * place;
-    if byte(policy, row) != NEXT {
+    let number = first + ahead;
+    if view_step_kind(policy, number) != NEXT {
         return 0;
     }
     if closing {
-        return byte(policy, row + 3);
+        return view_step_second(policy, number);
     }
-    byte(policy, row + 2)
+    view_step_first(policy, number)
 }
 
-fn begin(policy: &[u8], at: usize, count: usize, offset: u8, phase: u8) -> u8
-    requires { ⌜ at + stepSize * count ≤ length (now policy) ⌝ }
-    ensures { λ r. ⌜ r ≡ begins (phaseOf phase) (codeAt (now (policy .entry)) at count) offset ⌝ }
+fn begin(policy: &[u8], first: usize, count: usize, offset: u8, phase: u8) -> u8
+    requires { ⌜ StepsIn (now policy) first count ⌝ }
+    ensures { λ r. ⌜ r ≡ begins (phaseOf phase) (codeFrom (now (policy .entry)) first count) offset ⌝ }
 {
     if phase == AFTER {
         return offset;
     }
-    leaving(policy, at, count, offset, phase > AFTER)
+    leaving(policy, first, count, offset, phase > AFTER)
 }
 
 // "Before: go from take .. After: go on": a next is left as the phase begins, but not after the verdict. Writes where the leaf is.
-pub fn leave(policy: &[u8], mem: &mut [u64; 157], node: usize, at: usize, count: usize, phase: u8)
+pub fn leave(
+    policy: &[u8],
+    mem: &mut [u64; 157],
+    node: usize,
+    first: usize,
+    count: usize,
+    phase: u8,
+)
     requires { ⌜ (length (now mem) ≡ wordCount) × (node < mostNodes) ⌝ }
-    requires { ⌜ at + stepSize * count ≤ length (now policy) ⌝ }
-    ensures { λ _. ⌜ ((r start : ℕ) → isAsked r (phaseOf phase) (held (leaf node r start (codeAt (now (policy .entry)) at count)) (view (now (mem .entry)))) ≡ true
-        → Left node r start (codeAt (now (policy .entry)) at count) (phaseOf phase) (now (mem .entry)) (now (mem .exit))) ⌝ }
+    requires { ⌜ StepsIn (now policy) first count ⌝ }
+    ensures { λ _. ⌜ ((r start : ℕ) → isAsked r (phaseOf phase) (held (leaf node r start (codeFrom (now (policy .entry)) first count)) (view (now (mem .entry)))) ≡ true
+        → Left node r start (codeFrom (now (policy .entry)) first count) (phaseOf phase) (now (mem .entry)) (now (mem .exit))) ⌝ }
 {
-    let to = begin(policy, at, count, offset_at(mem, node), phase);
+    let to = begin(policy, first, count, offset_at(mem, node), phase);
     let counter = counter_at(mem, node);
     put(mem, node, RUNNING, to, UNMARKED, counter);
 }
@@ -227,17 +228,17 @@ pub fn run(
     policy: &[u8],
     mem: &mut [u64; 157],
     node: usize,
-    at: usize,
+    first: usize,
     count: usize,
     phase: u8,
 ) -> Progress
     requires { ⌜ (length (now mem) ≡ wordCount) × (node < mostNodes) ⌝ }
-    requires { ⌜ (at + stepSize * count ≤ length (now policy)) × Passing (codeAt (now policy) at count) ⌝ }
-    ensures { λ x. ⌜ ((r start : ℕ) → Ran node r start (codeAt (now (policy .entry)) at count) (phaseOf phase) (now (mem .entry)) (now (mem .exit)) x) ⌝ }
+    requires { ⌜ StepsIn (now policy) first count × Passing (codeFrom (now policy) first count) ⌝ }
+    ensures { λ x. ⌜ ((r start : ℕ) → Ran node r start (codeFrom (now (policy .entry)) first count) (phaseOf phase) (now (mem .entry)) (now (mem .exit)) x) ⌝ }
 {
     let offset = offset_at(mem, node);
     let counter = counter_at(mem, node);
-    let x = go_on(policy, at, count, pending(phase), offset, counter);
+    let x = go_on(policy, first, count, pending(phase), offset, counter);
     let last = x.last;
     match last {
         Last::Stay => {

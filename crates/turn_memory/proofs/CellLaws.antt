@@ -7,8 +7,8 @@ use lib.Dec.{ltb, eqb}
 use borrow.Author.Tests.{lt-ltb, ltb-true}
 use lib.ListN.{length, getD, set, length-set}
 use lib.Seq.{getD-set-same, getD-set-other}
-use Rattle.policy.specs.Records.{mostNodes}
-use Rattle.turns.specs.Status.{statusOf}
+use Rattle.spec_policy.specs.Records.{mostNodes}
+use Rattle.spec_turns.specs.Status.{statusOf}
 use Rattle.turn_paths.specs.Memory.{Cell}
 use Rattle.turn_memory.specs.Words.{Words, statusIn, offsetIn, markIn, counterIn, packed, celled, view, Only}
 

@@ -11,8 +11,8 @@ use lib.ListN.{length, getD, set, take, drop, length-append, length-drop, length
 use lib.Seq.{take-all, drop-nil, drop-append-le, getD-set-same, getD-set-other}
 use borrow.Author.Tests.{ltb-true, ltb-false}
 use Rattle.actions.specs.Sets.{Action}
-use Rattle.policy.specs.Bytes.{spelt, number}
-use Rattle.policy.proofs.ByteLaws.{Small, small-drop, part-front, spelt-append, spelt-less}
+use Rattle.spec_policy.specs.Bytes.{spelt, number, Small}
+use Rattle.spec_policy.proofs.ByteLaws.{small-drop, part-front, spelt-append, spelt-less}
 use Rattle.turn_paths.proofs.Frames.{same-or-not}
 use Rattle.turn_memory.specs.Words.{Words, countPlace, toldPlace, setPlace, wordCount, toldCount, pushed}
 use Rattle.turn_memory.specs.Told.{Eights, Tells, Told}

@@ -3,7 +3,7 @@ use Prim.Native.Nat.{ℕ}
 use mathlib.Core.Bool.{true, false}
 use lib.Dec.{eqb, ltb}
 use Rattle.actions.specs.Sets.{Action}
-use Rattle.turns.specs.Turn.{Phase, before, after, closing}
+use Rattle.spec_turns.specs.Turn.{Phase, before, after, closing}
 
 abbrev pub afterNumber : ℕ
 afterNumber = 64

@@ -4,7 +4,7 @@ use mathlib.Core.Path.{_≡_}
 use mathlib.Core.List.{List, _++_}
 use lib.ListN.{length, getD}
 use Rattle.actions.specs.Sets.{Action}
-use Rattle.policy.specs.Bytes.{number}
+use Rattle.spec_policy.specs.Bytes.{number}
 use Rattle.turn_memory.specs.Words.{Words, countPlace, toldPlace}
 
 -- the words of the inserts spell them, eight a word, the first one highest

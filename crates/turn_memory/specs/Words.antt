@@ -6,8 +6,8 @@ use mathlib.Core.Bool.{true, false}
 use lib.Dec.{ltb, eqb}
 use lib.ListN.{length, getD, set}
 use Rattle.actions.specs.Sets.{Action}
-use Rattle.policy.specs.Records.{mostNodes}
-use Rattle.turns.specs.Status.{statusOf}
+use Rattle.spec_policy.specs.Records.{mostNodes}
+use Rattle.spec_turns.specs.Status.{statusOf}
 use Rattle.turn_paths.specs.Memory.{Cell, Mem}
 
 abbrev pub Words : Type 0

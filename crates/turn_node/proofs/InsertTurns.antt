@@ -12,13 +12,13 @@ use borrow.Author.Tests.{ne-eqb, le-leb, lt-ltb}
 use Rattle.actions.specs.Sets.{Action, EMPTY, isAction, single, union, has}
 use Rattle.actions.proofs.SetLaws.{has-empty, has-single, has-union}
 use Rattle.actions.proofs.Tests.{true-not-false}
-use Rattle.policy.specs.Bytes.{Bytes}
-use Rattle.policy.specs.Lists.{among}
-use Rattle.policy.specs.Tree.{treeAt, numberOf}
-use Rattle.rules.proofs.Numbers.{number-at}
-use Rattle.turns.specs.Status.{running, isRunning, joined}
-use Rattle.turns.specs.Process.{Item, lets}
-use Rattle.turns.specs.Turn.{Phase, before, after, isAsked}
+use Rattle.spec_policy.specs.Bytes.{Bytes}
+use Rattle.spec_policy.specs.Lists.{among}
+use Rattle.spec_policy.specs.Tree.{treeAt, numberOf}
+use Rattle.spec_check.proofs.Numbers.{number-at}
+use Rattle.spec_turns.specs.Status.{running, isRunning, joined}
+use Rattle.spec_turns.specs.Process.{Item, lets}
+use Rattle.spec_turns.specs.Turn.{Phase, before, after, isAsked}
 use Rattle.turn_paths.specs.Memory.{Mem}
 use Rattle.turn_paths.specs.Choices.{emits}
 use Rattle.turn_paths.specs.Paths.{Feeder, Ended, done, stopped, Clear, isStop, GoesOn, Turned, Rose}

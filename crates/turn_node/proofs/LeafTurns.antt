@@ -7,12 +7,12 @@ use mathlib.Core.List.{List, [], _∷_, _++_}
 use mir.Val.{boolByte}
 use Rattle.actions.specs.Sets.{Action}
 use Rattle.actions.proofs.Tests.{true-not-false}
-use Rattle.policy.specs.Bytes.{Bytes}
-use Rattle.policy.specs.Tree.{aLeaf, Tree, treeAt}
-use Rattle.rules.specs.Lawful.{holds}
-use Rattle.rules.proofs.Numbers.{number-at}
-use Rattle.turns.specs.Process.{Item, lets}
-use Rattle.turns.specs.Turn.{Phase}
+use Rattle.spec_policy.specs.Bytes.{Bytes}
+use Rattle.spec_policy.specs.Tree.{aLeaf, Tree, treeAt}
+use Rattle.spec_check.specs.Lawful.{holds}
+use Rattle.spec_check.proofs.Numbers.{number-at}
+use Rattle.spec_turns.specs.Process.{Item, lets}
+use Rattle.spec_turns.specs.Turn.{Phase}
 use Rattle.turn_paths.specs.Run.{Run, halts, goes, first}
 use Rattle.turn_paths.specs.Memory.{Mem, held, ranOf}
 use Rattle.turn_paths.specs.Paths.{Feeder, Outside, feeders, within, Shows, rights, Ended, done, isStop, GoesOn}

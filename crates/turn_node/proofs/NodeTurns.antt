@@ -5,13 +5,13 @@ use mathlib.Core.Path.{_≡_, refl, sym, ap, _∙_, subst}
 use mathlib.Core.Bool.{Bool, true, false}
 use lib.Dec.{eqb}
 use lib.ListN.{getD, set}
-use Rattle.policy.specs.Bytes.{Bytes}
-use Rattle.policy.specs.Records.{nodePlace, nodeAt}
-use Rattle.policy.specs.Tree.{aPair, nodeKind, Tree, trivial, unsatisfiable, treeAt, regulated}
-use Rattle.rules.proofs.Numbers.{number-at}
-use Rattle.turns.specs.Status.{Status, isRunning, statusOf}
-use Rattle.turns.specs.State.{State, leafOver}
-use Rattle.turns.specs.Turn.{Phase, isAsked, quiet}
+use Rattle.spec_policy.specs.Bytes.{Bytes}
+use Rattle.spec_policy.specs.Records.{nodePlace, nodeAt}
+use Rattle.spec_policy.specs.Tree.{aPair, nodeKind, Tree, trivial, unsatisfiable, treeAt, regulated}
+use Rattle.spec_check.proofs.Numbers.{number-at}
+use Rattle.spec_turns.specs.Status.{Status, isRunning, statusOf}
+use Rattle.spec_turns.specs.State.{State, leafOver}
+use Rattle.spec_turns.specs.Turn.{Phase, isAsked, quiet}
 use Rattle.turn_paths.specs.Run.{halts, flat}
 use Rattle.turn_paths.specs.Memory.{Cell, Mem, leafed, held, ranOf}
 use Rattle.turn_paths.specs.Choices.{askedIn}
@@ -26,11 +26,11 @@ use Rattle.turn_tables.specs.Tables.{pathAt}
 use Rattle.turn_ends.specs.Ends as ends
 use Rattle.turn_place.specs.Places.{Stands, Asked}
 use Rattle.turn_place.proofs.LeafPlaces.{low}
-use Rattle.reading.specs.Kinds.{kindOf, wayOf, joinOf}
-use Rattle.reading.specs.declared.Kind.{Kind}
-use Rattle.reading.specs.declared.Kind.the-variants as kinds
-use Rattle.reading.specs.declared.Way.{Way}
-use Rattle.reading.specs.declared.Join.{Join}
+use Rattle.file_records.specs.Kinds.{kindOf, wayOf, joinOf}
+use Rattle.file_records.specs.declared.Kind.{Kind}
+use Rattle.file_records.specs.declared.Kind.the-variants as kinds
+use Rattle.file_records.specs.declared.Way.{Way}
+use Rattle.file_records.specs.declared.Join.{Join}
 use Rattle.turn_node.specs.Turns.{TurnsAt}
 use Rattle.turn_node.proofs.Parts.{moved-none, moved-own, to-turns}
 use Rattle.turn_node.proofs.LeafTurns.{own-write, own-kept}

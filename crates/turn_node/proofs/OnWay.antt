@@ -8,9 +8,9 @@ use lib.Dec.{ltb, eqb}
 use borrow.Author.Tests.{ltb-true, eqb-true}
 use Rattle.actions.specs.Sets.{Action}
 use Rattle.actions.proofs.Tests.{true-not-false}
-use Rattle.policy.specs.Bytes.{Bytes}
-use Rattle.policy.specs.Lists.{among}
-use Rattle.turns.specs.Process.{Item}
+use Rattle.spec_policy.specs.Bytes.{Bytes}
+use Rattle.spec_policy.specs.Lists.{among}
+use Rattle.spec_turns.specs.Process.{Item}
 use Rattle.turn_paths.specs.Memory.{Mem}
 use Rattle.turn_paths.specs.Paths.{Feeder}
 use Rattle.turn_paths.specs.Beneath.{size, ahead}

@@ -7,23 +7,22 @@ use mathlib.Core.List.{List, [], _∷_, _++_}
 use lib.Dec.{ltb, eqb}
 use borrow.Author.Tests.{ne-eqb, eqb-true}
 use mathlib.Core.Logic.{_⊎_, inl, inr}
-use Rattle.policy.specs.Bytes.{Bytes}
-use Rattle.policy.specs.Tree.{Way, parallel, sequential, aPair, Tree, node, treeAt, regulated, numberOf}
-use Rattle.rules.specs.Lawful.{Numbered}
-use Rattle.rules.proofs.Numbers.{number-at}
-use Rattle.turns.specs.Status.{Status, isRunning, joined}
-use Rattle.turns.specs.Process.{Item}
-use Rattle.turns.specs.Turn.{Phase, before, after, closing, isAsked, stillAsked}
+use Rattle.spec_policy.specs.Bytes.{Bytes}
+use Rattle.spec_policy.specs.Tree.{Way, parallel, sequential, aPair, Tree, node, treeAt, regulated, numberOf}
+use Rattle.spec_check.specs.Lawful.{Numbered}
+use Rattle.spec_check.proofs.Numbers.{number-at}
+use Rattle.spec_turns.specs.Status.{Status, isRunning, joined}
+use Rattle.spec_turns.specs.Process.{Item}
+use Rattle.spec_turns.specs.Turn.{Phase, before, after, closing, isAsked, stillAsked}
 use Rattle.turn_paths.specs.Memory.{Mem, held}
 use Rattle.turn_paths.specs.Choices.{Settled, goesOn, endSup}
-use Rattle.turn_paths.specs.Paths.{Feeder, Ended, stopped, Turned}
+use Rattle.turn_paths.specs.Paths.{Feeder, Ended, stopped, Turned, LeftOver}
 use Rattle.turn_paths.proofs.Frames.{same-or-not}
 use Rattle.turn_paths.proofs.TurnLaws.{
   par-stop-left,
   par-stop-right,
   par-done,
   AtLeft,
-  LeftOver,
   starts-before,
   starts-closing,
   seq-stopped-here,

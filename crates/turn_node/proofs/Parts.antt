@@ -5,9 +5,9 @@ use mathlib.Core.Path.{_≡_, refl, sym, ap, _∙_, subst}
 use mathlib.Core.List.{List, [], _∷_, _++_}
 use lib.Dec.{eqb}
 use Rattle.actions.specs.Sets.{Action}
-use Rattle.policy.specs.Tree.{Tree}
-use Rattle.turns.specs.Process.{Item, ran, lets, sups, accepts, suppresses}
-use Rattle.turns.specs.Turn.{Phase}
+use Rattle.spec_policy.specs.Tree.{Tree}
+use Rattle.spec_turns.specs.Process.{Item, ran, lets, sups, accepts, suppresses}
+use Rattle.spec_turns.specs.Turn.{Phase}
 use Rattle.turn_paths.specs.Run.{silent, AllSilent}
 use Rattle.turn_paths.specs.Paths.{Feeder, Ended, done, stopped, Turned, Rose}
 use Rattle.turn_memory.specs.Words.{Words, view, Only}

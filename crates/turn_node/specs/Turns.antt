@@ -4,14 +4,14 @@ use mathlib.Core.Path.{_≡_}
 use mathlib.Core.Bool.{Bool}
 use mathlib.Core.List.{List, [], _∷_, _++_}
 use Rattle.actions.specs.Sets.{Action, has}
-use Rattle.policy.specs.Bytes.{Bytes}
-use Rattle.policy.specs.Lists.{among}
-use Rattle.policy.specs.Tree.{sequential, Tree, node, treeAt}
-use Rattle.rules.specs.Lawful.{Numbered}
-use Rattle.turns.specs.Process.{Item, ran, lets, sups, accepts, suppresses}
-use Rattle.turns.specs.Turn.{Phase}
+use Rattle.spec_policy.specs.Bytes.{Bytes}
+use Rattle.spec_policy.specs.Lists.{among}
+use Rattle.spec_policy.specs.Tree.{sequential, Tree, node, treeAt}
+use Rattle.spec_check.specs.Lawful.{Numbered}
+use Rattle.spec_turns.specs.Process.{Item, ran, lets, sups, accepts, suppresses}
+use Rattle.spec_turns.specs.Turn.{Phase}
 use Rattle.turn_paths.specs.Memory.{Mem}
-use Rattle.turn_paths.specs.Paths.{Feeder, Ended, done, stopped, Clear, Turned, Rose}
+use Rattle.turn_paths.specs.Paths.{Feeder, Ended, done, stopped, Clear, Turned, Rose, LeftOver}
 use Rattle.turn_paths.specs.Beneath.{height, size, ahead}
 use Rattle.turn_paths.specs.Rising.{Half, Rising, Owes}
 use Rattle.turn_memory.specs.Words.{Words, view}
@@ -20,7 +20,6 @@ use Rattle.turn_sides.specs.Sides.{leftAt, rightAt, joinAt}
 use Rattle.turn_tables.specs.Tables.{asFeeder, pathAt}
 use Rattle.turn_ends.specs.Ends.{ended}
 use Rattle.turn_place.specs.Places.{Keeps, Stands, Sequential}
-use Rattle.turn_paths.proofs.TurnLaws.{LeftOver}
 use Rattle.turn_node.specs.declared.Risen.{Risen}
 
 -- the inserts among the items

@@ -5,8 +5,8 @@ ghost use mathlib.Core.Bool.{true, false};
 ghost use Prim.Native.Nat.{ℕ, _≤_, _<_};
 ghost use lib.Dec.{eqb};
 ghost use Rattle.actions.specs.Sets.{Action, has};
-ghost use Rattle.policy.specs.Tree.{parallel, sequential, aLeaf, aPair};
-ghost use Rattle.turns.specs.Turn.{after};
+ghost use Rattle.spec_policy.specs.Tree.{parallel, sequential, aLeaf, aPair};
+ghost use Rattle.spec_turns.specs.Turn.{after};
 ghost use Rattle.turn_memory.specs.Words.{Words};
 ghost use Rattle.turn_memory.specs.Phases.{afterNumber, phaseOf};
 ghost use Rattle.turn_sides.specs.Sides.{kindAt, joinAt};
@@ -15,10 +15,9 @@ ghost use Rattle.turn_ends.specs.Ends.{ended};
 ghost use Rattle.turn_place.specs.Places.{Stands, Sequential, Asked};
 ghost use Rattle.turn_node.specs.Turns.{TurnsAt, LeftEnds, Emits, Feeds, Owing, Rises, Settles};
 use actions::ActionSet;
-use reading::Kind;
-use reading::Way;
-use reading::node_kind;
-use reading::node_place;
+use file_records::Kind;
+use file_records::Way;
+use file_view::view_kind;
 use turn_ends::ACCEPTED;
 use turn_ends::STOPPED;
 use turn_ends::SUPPRESSED;
@@ -60,7 +59,7 @@ fn asked_turn(policy: &[u8], mem: &mut [u64; 157], node: usize, phase: u8) -> us
     requires { ⌜ Stands (now policy) (now mem) node × Asked (now policy) (now mem) node (phaseOf phase) ⌝ }
     ensures { λ r. ⌜ TurnsAt (now (policy .entry)) node (phaseOf phase) (now (mem .entry)) (now (mem .exit)) r ⌝ }
 {
-    let kind = node_kind(policy, node_place(node));
+    let kind = view_kind(policy, node);
     match kind {
         Kind::Leaf => leaf(policy, mem, node, phase),
         Kind::Trivial => over(mem, node, ENDED),

@@ -4,18 +4,18 @@ use mathlib.Core.Path.{_≡_, refl, sym, ap, ap₂, _∙_}
 use mathlib.Core.Bool.{Bool, true, false, _&&_}
 use Rattle.actions.specs.Sets.{Action, ActionSet, has}
 use Rattle.actions.proofs.Tests.{and-first}
-use Rattle.policy.specs.Tree.{Way, parallel, sequential, Join, Tree, leaf, trivial, unsatisfiable, node, numberOf, regulated}
-use Rattle.turns.specs.Status.{Status, ended, halted, dropped, isRunning, joined}
-use Rattle.turns.specs.State.{State, at, over, status, asked, leftOf, rightOf, leafOver, drop, noded, settled}
-use Rattle.turns.specs.Process.{ran, lets, sups, accepts, suppresses, Out}
-use Rattle.turns.specs.Turn.{Phase, before, after, closing, Behaviour, quiet, emitted, stillAsked, leafWork, parallelWork, sequentialWork, isAsked, ifAsked, phase, fresh}
-use Rattle.turns.proofs.Rest.{gone}
+use Rattle.spec_policy.specs.Tree.{Way, parallel, sequential, Join, Tree, leaf, trivial, unsatisfiable, node, numberOf, regulated}
+use Rattle.spec_turns.specs.Status.{Status, ended, halted, dropped, isRunning, joined}
+use Rattle.spec_turns.specs.State.{State, at, over, status, asked, leftOf, rightOf, leafOver, drop, noded, settled}
+use Rattle.spec_turns.specs.Process.{ran, lets, sups, accepts, suppresses, Out}
+use Rattle.spec_turns.specs.Turn.{Phase, before, after, closing, Behaviour, quiet, emitted, stillAsked, leafWork, parallelWork, sequentialWork, isAsked, ifAsked, phase, fresh}
+use Rattle.spec_turns.specs.Rest.{gone}
 use Rattle.turn_paths.specs.Run.{Run, halts, goes, andThen, flat, unlessRun, maybe, fedAfter, fedBefore, givenRun, feedRun}
 use Rattle.turn_paths.specs.Memory.{Cell, Mem, leafed, held, ranOf, parRight, parLeft, own, ends, atLeft, atFirst}
 use Rattle.turn_paths.specs.Choices.{askedIn}
 use Rattle.turn_paths.proofs.Runs.{ext, ext₂, flat-then, flat-if, flat-unless, flat-feed}
-use Rattle.turns.proofs.StatusLaws.{is-running}
-use Rattle.turns.proofs.Walk.{fresh-runs}
+use Rattle.spec_turns.proofs.StatusLaws.{is-running}
+use Rattle.spec_turns.proofs.Walk.{fresh-runs}
 
 -- ---- the state that a memory holds
 

@@ -7,13 +7,13 @@ use mathlib.Core.List.{List, _∷_, _++_}
 use lib.Dec.{eqb, eqb-refl}
 use Rattle.actions.specs.Sets.{Action, has}
 use Rattle.actions.proofs.Tests.{yes-of, or-false-left, or-false-right, true-not-false}
-use Rattle.policy.specs.Tree.{Join, and, or, Tree, regulated, numberOf}
-use Rattle.rules.specs.Lawful.{holds}
-use Rattle.turns.specs.Status.{Status, running, isRunning, joined}
-use Rattle.turns.specs.State.{State, status, settled}
-use Rattle.turns.specs.Process.{Item, lets, Out}
-use Rattle.turns.specs.Turn.{before, after, emitted, fresh}
-use Rattle.turns.proofs.Walk.{fresh-runs}
+use Rattle.spec_policy.specs.Tree.{Join, and, or, Tree, regulated, numberOf}
+use Rattle.spec_check.specs.Lawful.{holds}
+use Rattle.spec_turns.specs.Status.{Status, running, isRunning, joined}
+use Rattle.spec_turns.specs.State.{State, status, settled}
+use Rattle.spec_turns.specs.Process.{Item, lets, Out}
+use Rattle.spec_turns.specs.Turn.{before, after, emitted, fresh}
+use Rattle.spec_turns.proofs.Walk.{fresh-runs}
 use Rattle.turn_paths.specs.Run.{Run, halts, goes, andThen, maybe, fedAfter, fedBefore, feedRun}
 use Rattle.turn_paths.specs.Memory.{Mem, held, ranOf}
 use Rattle.turn_paths.specs.Choices.{KeptBut, emits}

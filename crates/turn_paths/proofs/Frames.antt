@@ -5,9 +5,9 @@ use mathlib.Core.Bool.{Bool, true, false, _||_}
 use mathlib.Core.Logic.{_⊎_, inl, inr, ⊎-elim}
 use lib.Dec.{T, eqb, eqb→eq, eqb-refl}
 use Rattle.actions.proofs.Tests.{yes-of, bool-cases, or-false-left, or-false-right, true-not-false}
-use Rattle.policy.specs.Tree.{Way, Join, Tree, leaf, trivial, unsatisfiable, node, numberOf}
-use Rattle.rules.specs.Lawful.{holds, Disjoint, Numbered}
-use Rattle.turns.specs.State.{noded}
+use Rattle.spec_policy.specs.Tree.{Way, Join, Tree, leaf, trivial, unsatisfiable, node, numberOf}
+use Rattle.spec_check.specs.Lawful.{holds, Disjoint, Numbered}
+use Rattle.spec_turns.specs.State.{noded}
 use Rattle.turn_paths.specs.Memory.{Cell, Mem, leafed, held}
 use Rattle.turn_paths.specs.Choices.{KeptBut}
 

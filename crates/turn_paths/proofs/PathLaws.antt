@@ -7,11 +7,11 @@ use mathlib.Core.List.{List, [], _∷_, _++_}
 use lib.Dec.{T, eqb, eqb→eq, eqb-refl}
 use Rattle.actions.specs.Sets.{ActionSet}
 use Rattle.actions.proofs.Tests.{yes-of, bool-cases, true-not-false}
-use Rattle.policy.specs.Tree.{Join, regulated}
-use Rattle.rules.specs.Lawful.{holds}
-use Rattle.turns.specs.State.{State}
-use Rattle.turns.specs.Process.{Item, ran, lets, sups, accepts, suppresses, Out}
-use Rattle.turns.specs.Turn.{Phase, fresh}
+use Rattle.spec_policy.specs.Tree.{Join, regulated}
+use Rattle.spec_check.specs.Lawful.{holds}
+use Rattle.spec_turns.specs.State.{State}
+use Rattle.spec_turns.specs.Process.{Item, ran, lets, sups, accepts, suppresses, Out}
+use Rattle.spec_turns.specs.Turn.{Phase, fresh}
 use Rattle.turn_paths.specs.Run.{Run, halts, goes, andThen, feedRun, first, silent, AllSilent}
 use Rattle.turn_paths.specs.Memory.{Mem, held, ranOf}
 use Rattle.turn_paths.proofs.Frames.{held-same}

@@ -8,10 +8,10 @@ use mathlib.Core.Logic.{⊎-elim}
 use mathlib.Core.List.{List, [], _∷_}
 use lib.Dec.{eqb, leb, eqb→eq}
 use Rattle.actions.proofs.Tests.{bool-cases, true-not-false}
-use Rattle.policy.specs.Tree.{Way, parallel, sequential, Join, Tree, node, numberOf}
-use Rattle.rules.specs.Lawful.{holds, Numbered, Lawful}
-use Rattle.turns.specs.Process.{Item}
-use Rattle.turns.specs.Turn.{Phase}
+use Rattle.spec_policy.specs.Tree.{Way, parallel, sequential, Join, Tree, node, numberOf}
+use Rattle.spec_check.specs.Lawful.{holds, Numbered, Lawful}
+use Rattle.spec_turns.specs.Process.{Item}
+use Rattle.spec_turns.specs.Turn.{Phase}
 use Rattle.turn_paths.specs.Run.{halts, first}
 use Rattle.turn_paths.specs.Memory.{Mem, held, ranOf}
 use Rattle.turn_paths.proofs.Frames.{own-number, not-right-of-left}

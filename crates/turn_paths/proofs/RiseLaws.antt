@@ -5,12 +5,12 @@ use mathlib.Core.Bool.{Bool, true, false, _&&_}
 use mathlib.Core.List.{List, [], _∷_}
 use Rattle.actions.specs.Sets.{Action, ActionSet, has}
 use Rattle.actions.proofs.Tests.{or-false-right}
-use Rattle.policy.specs.Tree.{Join, regulated}
-use Rattle.rules.specs.Lawful.{holds}
-use Rattle.turns.specs.Status.{isRunning}
-use Rattle.turns.specs.State.{State, status}
-use Rattle.turns.specs.Process.{Item, lets, Out}
-use Rattle.turns.specs.Turn.{Phase, before, fresh}
+use Rattle.spec_policy.specs.Tree.{Join, regulated}
+use Rattle.spec_check.specs.Lawful.{holds}
+use Rattle.spec_turns.specs.Status.{isRunning}
+use Rattle.spec_turns.specs.State.{State, status}
+use Rattle.spec_turns.specs.Process.{Item, lets, Out}
+use Rattle.spec_turns.specs.Turn.{Phase, before, fresh}
 use Rattle.turn_paths.specs.Run.{Run, goes, andThen, fedBefore, feedRun, givenRun, first}
 use Rattle.turn_paths.specs.Memory.{Mem, held, ranOf}
 use Rattle.turn_paths.proofs.Frames.{held-same}

@@ -4,10 +4,10 @@ use mathlib.Core.Path.{_≡_, sym, subst}
 use mathlib.Core.Bool.{Bool, true, false}
 use mathlib.Core.List.{List, [], _∷_, _++_, append-assoc}
 use Rattle.actions.specs.Sets.{Action}
-use Rattle.policy.specs.Tree.{numberOf}
-use Rattle.turns.specs.Status.{running, isRunning, joined}
-use Rattle.turns.specs.Process.{Item, lets}
-use Rattle.turns.specs.Turn.{before, after}
+use Rattle.spec_policy.specs.Tree.{numberOf}
+use Rattle.spec_turns.specs.Status.{running, isRunning, joined}
+use Rattle.spec_turns.specs.Process.{Item, lets}
+use Rattle.spec_turns.specs.Turn.{before, after}
 use Rattle.turn_paths.specs.Memory.{Mem}
 use Rattle.turn_paths.specs.Choices.{KeptBut, emits}
 use Rattle.turn_paths.specs.Paths.{Feeder, done, stopped, Beside, Clear, Turned, Rose}

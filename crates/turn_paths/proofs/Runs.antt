@@ -2,11 +2,11 @@
 use mathlib.Core.Path.{_≡_, refl, sym, ap, _∙_}
 use mathlib.Core.Bool.{Bool, true, false, _&&_}
 use Rattle.actions.specs.Sets.{Action, ActionSet, has}
-use Rattle.policy.specs.Tree.{Join}
-use Rattle.turns.specs.Status.{isRunning, joined}
-use Rattle.turns.specs.State.{State, status, settled}
-use Rattle.turns.specs.Process.{Item, ran, lets, sups, accepts, suppresses, Out, Process, stop, does, both, then}
-use Rattle.turns.specs.Turn.{Phase, before, after, Behaviour, emitted, unlessDecided, perhaps, given, feed}
+use Rattle.spec_policy.specs.Tree.{Join}
+use Rattle.spec_turns.specs.Status.{isRunning, joined}
+use Rattle.spec_turns.specs.State.{State, status, settled}
+use Rattle.spec_turns.specs.Process.{Item, ran, lets, sups, accepts, suppresses, Out, Process, stop, does, both, then}
+use Rattle.spec_turns.specs.Turn.{Phase, before, after, Behaviour, emitted, unlessDecided, perhaps, given, feed}
 use Rattle.turn_paths.specs.Run.{Run, halts, goes, andThen, flat, unlessRun, maybe, fedAfter, fedBefore, givenRun, feedRun}
 
 pub ext : {A B : Type 0} {f g : A → B} → ((x : A) → f x ≡ g x) → f ≡ g

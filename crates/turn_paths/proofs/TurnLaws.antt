@@ -6,20 +6,20 @@ use mathlib.Core.List.{List, [], _∷_, _++_}
 use lib.Dec.{eqb, eqb-refl}
 use Rattle.actions.specs.Sets.{Action, ActionSet}
 use Rattle.actions.proofs.Tests.{yes-of, or-false-left, true-not-false, and-first, and-second}
-use Rattle.policy.specs.Tree.{Way, parallel, sequential, Join, Tree, node, regulated, numberOf}
-use Rattle.rules.specs.Lawful.{holds, Numbered}
-use Rattle.turns.specs.Status.{Status, isRunning, isHalted, joined}
-use Rattle.turns.specs.State.{State, over, status, drop, noded, settled}
-use Rattle.turns.specs.Process.{Item, Out}
-use Rattle.turns.specs.Turn.{Phase, before, after, closing, stillAsked, judged, isAsked, fresh}
-use Rattle.turns.proofs.Walk.{fresh-runs}
+use Rattle.spec_policy.specs.Tree.{Way, parallel, sequential, Join, Tree, node, regulated, numberOf}
+use Rattle.spec_check.specs.Lawful.{holds, Numbered}
+use Rattle.spec_turns.specs.Status.{Status, isRunning, isHalted, joined}
+use Rattle.spec_turns.specs.State.{State, over, status, drop, noded, settled}
+use Rattle.spec_turns.specs.Process.{Item, Out}
+use Rattle.spec_turns.specs.Turn.{Phase, before, after, closing, stillAsked, judged, isAsked, fresh}
+use Rattle.spec_turns.proofs.Walk.{fresh-runs}
 use Rattle.turn_paths.specs.Run.{Run, halts, andThen, unlessRun, feedRun}
 use Rattle.turn_paths.specs.Memory.{Mem, held, ranOf, parRight, parLeft, own, ends, atLeft, atFirst}
 use Rattle.turn_paths.specs.Choices.{KeptBut, Settled, goesOn, endSup}
 use Rattle.turn_paths.proofs.Runs.{unless-running, unless-decided}
 use Rattle.turn_paths.proofs.Begin.{held-status, drop-held, drop-fresh, noded-over, idle, left-fresh, begins-parallel, begins-before, begins-closing, begins-after}
 use Rattle.turn_paths.proofs.Frames.{own-number, outside, outside-left, outside-right, held-same, not-right-of-left, not-left-of-right, held-l-own, held-r-own}
-use Rattle.turn_paths.specs.Paths.{Feeder, Outside, follows, feeds, feeders, within, Shows, Ended, done, stopped, Decided, cutShort, If, Stops, GoesOn, rights, isStop, Apart, Turned}
+use Rattle.turn_paths.specs.Paths.{Feeder, Outside, follows, feeds, feeders, within, Shows, Ended, done, stopped, Decided, cutShort, If, Stops, GoesOn, rights, isStop, Apart, Turned, LeftOver}
 use Rattle.turn_paths.proofs.PathLaws.{shows-same, shows-then, shows-as, shows-from, within-same, stops-map}
 
 -- ---- a sequential node's choices (as in memory/proofs/Steps)
@@ -196,12 +196,6 @@ module _ (j : Join) {n : ℕ} {l r : Tree} (sd : Numbered n l r) (fs : List Feed
         (within (feeds here (ends j (regulated r) (ranOf r) ph) c) m (ranOf l ph (held l m)))
     pub kept : (i : ℕ) → holds seq i ≡ false → rights fs i ≡ false → m i ≡ m₀ i
 
-  -- the left side's phase is over
-  pub record LeftOver (ph : Phase) (m₀ m : Mem) (xs : List Item) (u : Bool) : Type 0 where
-    pub runs : (c : Outside) → feeders c ≡ fs → Shows (within c m₀ (ranOf seq ph (held seq m₀))) xs
-        (within c m (ends j (regulated r) (ranOf r) ph (record { state = held l m; suppressed = u }) (held r m)))
-    pub kept : (i : ℕ) → holds seq i ≡ false → rights fs i ≡ false → m i ≡ m₀ i
-
   -- before the verdict and at closing the left side goes first
   pub starts-before : (a : Action) (m : Mem) → isAsked (regulated seq) (before a) (held seq m) ≡ true → AtLeft (before a) m m []
   unfolding within atLeft
@@ -270,7 +264,7 @@ module _ (j : Join) {n : ℕ} {l r : Tree} (sd : Numbered n l r) (fs : List Feed
         opened c true e h = absurd (true-not-false refl e)
         opened c false e h = h
 
-    pub seq-left : {m₁ : Mem} {ys : List Item} {u : Bool} → Turned (here ∷ fs) l ph m m₁ ys (done u) → LeftOver ph m₀ m₁ (xs ++ ys) u
+    pub seq-left : {m₁ : Mem} {ys : List Item} {u : Bool} → Turned (here ∷ fs) l ph m m₁ ys (done u) → LeftOver j sd fs ph m₀ m₁ (xs ++ ys) u
     unfolding GoesOn within feedRun feeders isStop
     seq-left {m₁} {ys} {u} h = record {
       runs = λ c ec. shows-then (g .runs c ec) (h .runs (feeds here (ends j (regulated r) (ranOf r) ph) c) (ap (λ (gs : List Feeder). here ∷ gs) ec));
@@ -279,7 +273,7 @@ module _ (j : Join) {n : ℕ} {l r : Tree} (sd : Numbered n l r) (fs : List Feed
 
   -- ---- what follows the left side's end
 
-  module _ (apart : Apart seq fs) {ph : Phase} {m₀ m : Mem} {xs : List Item} {u : Bool} (g : LeftOver ph m₀ m xs u) where
+  module _ (apart : Apart seq fs) {ph : Phase} {m₀ m : Mem} {xs : List Item} {u : Bool} (g : LeftOver j sd fs ph m₀ m xs u) where
     read : {v : Bool} → goesOn ph (isRunning (joined j (m (numberOf l) .status) (m (numberOf r) .status))) u ≡ v
         → goesOn ph (isRunning (joined j (status (held l m)) (status (held r m)))) u ≡ v
     read e = ap (λ (s : Status). goesOn ph (isRunning s) u) (joined-held m) ∙ e

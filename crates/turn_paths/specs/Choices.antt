@@ -3,9 +3,9 @@ use Prim.Native.Nat.{ℕ}
 use mathlib.Core.Path.{_≡_}
 use mathlib.Core.Bool.{Bool, true, false, _&&_, _||_, not}
 use Rattle.actions.specs.Sets.{ActionSet, has}
-use Rattle.policy.specs.Tree.{Join, and, or}
-use Rattle.turns.specs.Status.{Status, isRunning, isHalted, joined}
-use Rattle.turns.specs.Turn.{Phase, before, after, closing}
+use Rattle.spec_policy.specs.Tree.{Join, and, or}
+use Rattle.spec_turns.specs.Status.{Status, isRunning, isHalted, joined}
+use Rattle.spec_turns.specs.Turn.{Phase, before, after, closing}
 use Rattle.turn_paths.specs.Memory.{Cell, Mem}
 
 -- ---- cells

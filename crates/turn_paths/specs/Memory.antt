@@ -2,11 +2,11 @@
 use Prim.Native.Nat.{ℕ}
 use mathlib.Core.Bool.{Bool, true, false, _||_}
 use Rattle.actions.specs.Sets.{ActionSet}
-use Rattle.policy.specs.Tree.{Join, Tree, leaf, trivial, unsatisfiable, node}
-use Rattle.turns.specs.Status.{Status, isRunning}
-use Rattle.turns.specs.State.{State, at, leafOver, noded, settled}
-use Rattle.turns.specs.Process.{Out}
-use Rattle.turns.specs.Turn.{Phase, before, after, closing, judged, phase}
+use Rattle.spec_policy.specs.Tree.{Join, Tree, leaf, trivial, unsatisfiable, node}
+use Rattle.spec_turns.specs.Status.{Status, isRunning}
+use Rattle.spec_turns.specs.State.{State, at, leafOver, noded, settled}
+use Rattle.spec_turns.specs.Process.{Out}
+use Rattle.spec_turns.specs.Turn.{Phase, before, after, closing, judged, phase}
 use Rattle.turn_paths.specs.Run.{Run, halts, andThen, flat, unlessRun, feedRun}
 
 -- A node's cell: what the state has of it, and whether it is to be asked after the verdict.

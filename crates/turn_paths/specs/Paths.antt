@@ -5,14 +5,14 @@ use mathlib.Core.Bool.{Bool, true, false, _||_}
 use mathlib.Core.List.{List, [], _∷_}
 use lib.Dec.{eqb}
 use Rattle.actions.specs.Sets.{Action}
-use Rattle.policy.specs.Tree.{Join, Tree, regulated, numberOf}
-use Rattle.rules.specs.Lawful.{holds}
-use Rattle.turns.specs.Status.{running, isRunning, joined}
-use Rattle.turns.specs.State.{State, settled}
-use Rattle.turns.specs.Process.{Item, lets, Out}
-use Rattle.turns.specs.Turn.{Phase, fresh}
+use Rattle.spec_policy.specs.Tree.{sequential, Join, Tree, node, regulated, numberOf}
+use Rattle.spec_check.specs.Lawful.{holds, Numbered}
+use Rattle.spec_turns.specs.Status.{running, isRunning, joined}
+use Rattle.spec_turns.specs.State.{State, settled}
+use Rattle.spec_turns.specs.Process.{Item, lets, Out}
+use Rattle.spec_turns.specs.Turn.{Phase, fresh}
 use Rattle.turn_paths.specs.Run.{Run, halts, goes, andThen, feedRun, first}
-use Rattle.turn_paths.specs.Memory.{Mem, held, ranOf}
+use Rattle.turn_paths.specs.Memory.{Mem, held, ranOf, ends}
 
 -- A sequential node, as an insert of its left side finds it.
 pub record Feeder : Type 0 where
@@ -120,3 +120,11 @@ pub record Turned (fs : List Feeder) (t : Tree) (ph : Phase) (m m′ : Mem) (xs 
 pub record Rose (fs : List Feeder) (b : Action) (m m′ : Mem) (xs : List Item) (x : Ended) : Type 0 where
   pub runs : (c : Outside) → feeders c ≡ fs → (p : Run) → GoesOn c m′ (λ u. p) x (Shows (within c m (goes (lets b) p)) xs)
   pub kept : (i : ℕ) → rights fs i ≡ false → isStop x i ≡ false → m′ i ≡ m i
+
+-- Between the two parts of a sequential node's phase, with its sides l and r: the left side's phase is over, with its action suppressed or not, and what
+-- follows it is to come.
+module _ (j : Join) {n : ℕ} {l r : Tree} (sd : Numbered n l r) (fs : List Feeder) where
+  pub record LeftOver (ph : Phase) (m₀ m : Mem) (xs : List Item) (u : Bool) : Type 0 where
+    pub runs : (c : Outside) → feeders c ≡ fs → Shows (within c m₀ (ranOf (node sequential j n l r) ph (held (node sequential j n l r) m₀))) xs
+        (within c m (ends j (regulated r) (ranOf r) ph (record { state = held l m; suppressed = u }) (held r m)))
+    pub kept : (i : ℕ) → holds (node sequential j n l r) i ≡ false → rights fs i ≡ false → m i ≡ m₀ i

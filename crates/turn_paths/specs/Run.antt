@@ -3,11 +3,11 @@ use mathlib.Core.Bool.{Bool, true, false, _&&_}
 use mathlib.Core.List.{List, [], _∷_}
 use lib.Dec.{T}
 use Rattle.actions.specs.Sets.{Action, ActionSet, has}
-use Rattle.policy.specs.Tree.{Join}
-use Rattle.turns.specs.Status.{isRunning, joined}
-use Rattle.turns.specs.State.{State, status, settled}
-use Rattle.turns.specs.Process.{Item, ran, lets, sups, accepts, suppresses, Out, Process, stop, does, both}
-use Rattle.turns.specs.Turn.{Phase, before, after, emitted}
+use Rattle.spec_policy.specs.Tree.{Join}
+use Rattle.spec_turns.specs.Status.{isRunning, joined}
+use Rattle.spec_turns.specs.State.{State, status, settled}
+use Rattle.spec_turns.specs.Process.{Item, ran, lets, sups, accepts, suppresses, Out, Process, stop, does, both}
+use Rattle.spec_turns.specs.Turn.{Phase, before, after, emitted}
 
 pub data Run : Type 0 where
   halts : Out → Run

@@ -1,20 +1,19 @@
 -- A leaf where the file has it: its steps, its tree, and its part of a phase. Assumes nothing.
-use Prim.Native.Nat.{ℕ, _+_, _*_, _-_, _≤_, _<_}
+use Prim.Native.Nat.{ℕ, _-_, _<_}
 use native.Mathlib.Omega.{arith}
 use mathlib.Core.Path.{_≡_, refl, sym, ap, ap₂, _∙_, subst}
 use mathlib.Core.Bool.{true}
 use mathlib.Core.List.{List}
-use lib.ListN.{length}
 use Rattle.actions.specs.Sets.{ActionSet}
-use Rattle.policy.specs.Bytes.{Bytes}
-use Rattle.policy.specs.Records.{stepSize, nodePlace, nodeAt, nodeCount}
-use Rattle.policy.specs.Steps.{Step}
-use Rattle.policy.specs.Tree.{aLeaf, Tree, leaf, regulated, treeAt}
-use Rattle.rules.specs.Lawful.{LawfulLeaf}
-use Rattle.rules.proofs.Grown.{EachLeaf}
-use Rattle.lawful.proofs.LawfulTree.{lawful-leaves}
-use Rattle.turns.specs.Turn.{Phase, isAsked}
-use Rattle.reading.specs.Code.{codeAt}
+use Rattle.spec_policy.specs.Bytes.{Bytes}
+use Rattle.spec_policy.specs.Records.{nodePlace, rowPlace, nodeAt, nodeCount}
+use Rattle.spec_policy.specs.Steps.{Step}
+use Rattle.spec_policy.specs.Tree.{aLeaf, Tree, leaf, regulated, treeAt}
+use Rattle.spec_check.specs.Lawful.{LawfulLeaf}
+use Rattle.spec_check.proofs.Grown.{EachLeaf}
+use Rattle.laws_check.proofs.LawfulTree.{lawful-leaves}
+use Rattle.spec_turns.specs.Turn.{Phase, isAsked}
+use Rattle.file_records.specs.Code.{codeFrom, StepsIn}
 use Rattle.turn_paths.specs.Run.{Run}
 use Rattle.turn_paths.specs.Memory.{held, ranOf}
 use Rattle.turn_memory.specs.Words.{Words, view}
@@ -31,7 +30,7 @@ file-room h = room (h .passed)
 pub low : {policy : Bytes} {ws : Words} {i : ℕ} → Stands policy ws i → i < 31
 low h = omega (arith, h .inside, file-room h .few)
 
-module _ {policy : Bytes} {ws : Words} {i : ℕ} (h : Stands policy ws i) (ek : kindAt policy i ≡ aLeaf) {at k : ℕ} (s : StepsOf policy i at k) where
+module _ {policy : Bytes} {ws : Words} {i : ℕ} (h : Stands policy ws i) (ek : kindAt policy i ≡ aLeaf) {first k : ℕ} (s : StepsOf policy i first k) where
   abbrev set : ActionSet
   set = nodeAt policy (nodePlace i) .set
 
@@ -39,28 +38,28 @@ module _ {policy : Bytes} {ws : Words} {i : ℕ} (h : Stands policy ws i) (ek : 
   start = nodeAt policy (nodePlace i) .start
 
   abbrev here : Tree
-  here = leaf i set start (codeAt policy at k)
+  here = leaf i set start (codeFrom policy first k)
 
-  leaf-tree : treeAt policy i ≡ leaf i (nodeAt policy (nodePlace i) .set) (nodeAt policy (nodePlace i) .start) (codeAt policy at k)
+  leaf-tree : treeAt policy i ≡ leaf i (nodeAt policy (nodePlace i) .set) (nodeAt policy (nodePlace i) .start) (codeFrom policy first k)
   unfolding kindAt
   leaf-tree =
       tree-leaf (h .passed) i (h .inside) ek
-      ∙ ap (λ (ss : List Step). leaf i (nodeAt policy (nodePlace i) .set) (nodeAt policy (nodePlace i) .start) ss) (ap₂ (codeAt policy) (sym (s .0)) (sym (s .1)))
+      ∙ ap (λ (ss : List Step). leaf i (nodeAt policy (nodePlace i) .set) (nodeAt policy (nodePlace i) .start) ss) (ap₂ (codeFrom policy) (sym (s .0)) (sym (s .1)))
 
-  pub leaf-passing : Passing (codeAt policy at k)
+  pub leaf-passing : Passing (codeFrom policy first k)
   unfolding EachLeaf treeAt
   leaf-passing = record {
     set = nodeAt policy (nodePlace i) .set;
     law = subst (EachLeaf (λ i s c code. LawfulLeaf s code)) leaf-tree (lawful-leaves policy (h .passed) (nodeCount policy - i) i);
   }
 
-  pub leaf-fits : at + stepSize * k ≤ length policy
-  unfolding kindAt
-  leaf-fits = subst (λ (x : ℕ). x ≤ length policy) (sym (ap₂ (λ (x y : ℕ). x + stepSize * y) (s .0) (s .1))) (leaf-room (h .passed) i (h .inside) ek)
+  pub leaf-fits : StepsIn policy first k
+  unfolding kindAt rowPlace
+  leaf-fits = (omega (arith, file-room h .few), omega (arith, s .0, s .1, leaf-room (h .passed) i (h .inside) ek))
 
   module _ (ph : Phase) (ws′ : Words) where
     pub leaf-begun : Asked policy ws i ph
-        → ((r c : ℕ) → isAsked r ph (held (leaf i r c (codeAt policy at k)) (view ws)) ≡ true → Left i r c (codeAt policy at k) ph ws ws′) → Begun policy i ph ws ws′
+        → ((r c : ℕ) → isAsked r ph (held (leaf i r c (codeFrom policy first k)) (view ws)) ≡ true → Left i r c (codeFrom policy first k) ph ws ws′) → Begun policy i ph ws ws′
     unfolding leafRun regulated
     leaf-begun a g =
         let z : isAsked set ph (held here (view ws)) ≡ true = subst (λ (t : Tree). isAsked (regulated t) ph (held t (view ws)) ≡ true) leaf-tree a in
@@ -70,12 +69,12 @@ module _ {policy : Bytes} {ws : Words} {i : ℕ} (h : Stands policy ws i) (ek : 
           only = l .only;
         }
 
-    came-to : (x : Progress) → came i set start (codeAt policy at k) ph ws′ x ≡ cameTo here ph ws′ x
+    came-to : (x : Progress) → came i set start (codeFrom policy first k) ph ws′ x ≡ cameTo here ph ws′ x
     unfolding came leafRun
     came-to (Insert b) = refl
     came-to (Done u) = refl
 
-    pub leaf-went : {x : Progress} → ((r c : ℕ) → Ran i r c (codeAt policy at k) ph ws ws′ x) → WentOn policy i ph ws ws′ x
+    pub leaf-went : {x : Progress} → ((r c : ℕ) → Ran i r c (codeFrom policy first k) ph ws ws′ x) → WentOn policy i ph ws ws′ x
     unfolding leafRun
     leaf-went {x} g =
         let r = g set start in

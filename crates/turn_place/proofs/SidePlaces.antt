@@ -3,10 +3,10 @@ use Prim.Native.Nat.{ℕ, _+_, _≤_, _<_}
 use native.Mathlib.Omega.{arith}
 use mathlib.Core.Path.{_≡_, sym, ap, _∙_, subst}
 use mathlib.Core.List.{List, _∷_}
-use Rattle.policy.specs.Bytes.{Bytes}
-use Rattle.policy.specs.Tree.{Way, parallel, aPair, Tree, leaf, trivial, unsatisfiable, node, treeAt, tree}
-use Rattle.rules.specs.Lawful.{Lawful}
-use Rattle.lawful.proofs.LawfulTree.{lawful}
+use Rattle.spec_policy.specs.Bytes.{Bytes}
+use Rattle.spec_policy.specs.Tree.{Way, parallel, aPair, Tree, leaf, trivial, unsatisfiable, node, treeAt, tree}
+use Rattle.spec_check.specs.Lawful.{Lawful}
+use Rattle.laws_check.proofs.LawfulTree.{lawful}
 use Rattle.turn_paths.specs.Paths.{Feeder, Apart, Beside}
 use Rattle.turn_paths.specs.Beneath.{Beneath, onParallelLeft, onLeft, onRight, height, size, ahead}
 use Rattle.turn_paths.proofs.PlaceLaws.{Standing, stands, beside, right-lower}

@@ -10,14 +10,14 @@ use borrow.Author.Tests.{lt-ltb}
 use Rattle.actions.specs.Sets.{Action, has}
 use Rattle.actions.proofs.Tests.{of-yes}
 use Rattle.actions.proofs.SetLaws.{has-low}
-use Rattle.policy.specs.Bytes.{Bytes}
-use Rattle.policy.specs.Records.{nodeCount}
-use Rattle.policy.specs.Tree.{Way, sequential, aPair, Tree, node, treeAt, tree}
-use Rattle.rules.specs.Passed.{Passed}
-use Rattle.rules.proofs.Numbers.{number-at}
-use Rattle.turns.specs.Status.{Status, isRunning}
-use Rattle.turns.specs.State.{status}
-use Rattle.turns.specs.Turn.{Phase}
+use Rattle.spec_policy.specs.Bytes.{Bytes}
+use Rattle.spec_policy.specs.Records.{nodeCount}
+use Rattle.spec_policy.specs.Tree.{Way, sequential, aPair, Tree, node, treeAt, tree}
+use Rattle.spec_check.specs.Passed.{Passed}
+use Rattle.spec_check.proofs.Numbers.{number-at}
+use Rattle.spec_turns.specs.Status.{Status, isRunning}
+use Rattle.spec_turns.specs.State.{status}
+use Rattle.spec_turns.specs.Turn.{Phase}
 use Rattle.turn_paths.specs.Memory.{Mem, held}
 use Rattle.turn_paths.specs.Choices.{askedIn}
 use Rattle.turn_paths.specs.Paths.{Feeder}

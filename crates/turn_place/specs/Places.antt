@@ -6,12 +6,12 @@ use mathlib.Core.Bool.{Bool, true, false}
 use mathlib.Core.List.{[], _∷_}
 use lib.ListN.{length, getD}
 use Rattle.actions.specs.Sets.{Action}
-use Rattle.policy.specs.Bytes.{Bytes}
-use Rattle.policy.specs.Records.{nodePlace, rowPlace, nodeAt, nodeCount}
-use Rattle.policy.specs.Tree.{sequential, aPair, Tree, leaf, trivial, unsatisfiable, node, regulated, firstStep, treeAt, tree}
-use Rattle.rules.specs.Passed.{Passed}
-use Rattle.turns.specs.Process.{lets}
-use Rattle.turns.specs.Turn.{Phase, isAsked}
+use Rattle.spec_policy.specs.Bytes.{Bytes}
+use Rattle.spec_policy.specs.Records.{nodePlace, nodeAt, nodeCount}
+use Rattle.spec_policy.specs.Tree.{sequential, aPair, Tree, leaf, trivial, unsatisfiable, node, regulated, firstStep, treeAt, tree}
+use Rattle.spec_check.specs.Passed.{Passed}
+use Rattle.spec_turns.specs.Process.{lets}
+use Rattle.spec_turns.specs.Turn.{Phase, isAsked}
 use Rattle.turn_paths.specs.Run.{Run, halts, goes}
 use Rattle.turn_paths.specs.Memory.{Mem, held, ranOf}
 use Rattle.turn_paths.specs.Beneath.{Beneath}
@@ -53,9 +53,9 @@ leafRun (trivial i) ph m = ranOf (trivial i) ph (held (trivial i) m)
 leafRun (unsatisfiable i) ph m = ranOf (unsatisfiable i) ph (held (unsatisfiable i) m)
 leafRun (node w j i l r) ph m = ranOf (node w j i l r) ph (held (node w j i l r) m)
 
--- where the leaf's first step stands in the file, and how many steps it has
-abbrev pub StepsOf : Bytes → ℕ → (place count : ℕ) → Type 0
-StepsOf policy i at k = (at ≡ rowPlace policy (firstStep policy i)) × (k ≡ nodeAt policy (nodePlace i) .count)
+-- the number of the leaf's first step, and how many steps it has
+abbrev pub StepsOf : Bytes → ℕ → (first count : ℕ) → Type 0
+StepsOf policy i first k = (first ≡ firstStep policy i) × (k ≡ nodeAt policy (nodePlace i) .count)
 
 -- its phase has begun
 pub record Begun (policy : Bytes) (i : ℕ) (ph : Phase) (ws ws′ : Words) : Type 0 where

@@ -2,15 +2,14 @@
 ghost use mathlib.Core.Path.{_≡_};
 ghost use Prim.Native.Nat.{_≤_};
 ghost use lib.Dec.{ltb, eqb};
-ghost use Rattle.policy.specs.Tree.{aLeaf};
+ghost use Rattle.spec_policy.specs.Tree.{aLeaf};
 ghost use Rattle.turn_paths.specs.Choices.{emits};
 ghost use Rattle.turn_memory.specs.Words.{view};
 ghost use Rattle.turn_memory.specs.Phases.{phaseOf};
 ghost use Rattle.turn_sides.specs.Sides.{kindAt, rightAt, joinAt, Sided};
 ghost use Rattle.turn_place.specs.Places.{Stands, Asked, StepsOf, Begun, WentOn, Finds};
-use reading::byte;
-use reading::node_count;
-use reading::node_place;
+ghost use Rattle.spec_policy.specs.Records.{mostNodes};
+use file_view::view_count;
 use turn_ends::SUPPRESSED;
 use turn_leaf::Progress;
 use turn_leaf::leave;
@@ -27,25 +26,20 @@ use turn_tables::first_of;
 
 // ---- a leaf
 
-// Where the file has its number of nodes, and how long a step is.
-const NODES_BYTE: usize = 3;
-
-const STEP_SIZE: usize = 12;
-
-// Where a leaf's first step stands in the file, and how many steps it has.
+// The number of a leaf's first step, and how many steps it has.
 struct Steps {
-    at: usize,
+    first: usize,
     count: usize,
 }
 
 fn steps_of(policy: &[u8], mem: &[u64; 157], node: usize) -> Steps
     requires { ⌜ Stands (now policy) (now mem) node ⌝ }
-    ensures { λ r. ⌜ StepsOf (now (policy .entry)) node (r .at) (r .count) ⌝ }
+    ensures { λ r. ⌜ StepsOf (now (policy .entry)) node (r .first) (r .count) ⌝ }
 {
-    let nodes = byte(policy, NODES_BYTE) as usize;
-    let count = node_count(policy, node_place(node)) as usize;
-    let at = node_place(nodes) + STEP_SIZE * first_of(mem, node);
-    Steps { at, count }
+    Steps {
+        first: first_of(mem, node),
+        count: view_count(policy, node) as usize,
+    }
 }
 
 // A leaf that is asked begins its phase.
@@ -54,7 +48,7 @@ pub fn begin_leaf(policy: &[u8], mem: &mut [u64; 157], node: usize, phase: u8)
     ensures { λ _. ⌜ Begun (now (policy .entry)) node (phaseOf phase) (now (mem .entry)) (now (mem .exit)) ⌝ }
 {
     let steps = steps_of(policy, mem, node);
-    leave(policy, mem, node, steps.at, steps.count, phase);
+    leave(policy, mem, node, steps.first, steps.count, phase);
 }
 
 // Up to the leaf's next insert, or to its phase's end.
@@ -63,7 +57,7 @@ pub fn run_leaf(policy: &[u8], mem: &mut [u64; 157], node: usize, phase: u8) -> 
     ensures { λ x. ⌜ WentOn (now (policy .entry)) node (phaseOf phase) (now (mem .entry)) (now (mem .exit)) x ⌝ }
 {
     let steps = steps_of(policy, mem, node);
-    run(policy, mem, node, steps.at, steps.count, phase)
+    run(policy, mem, node, steps.first, steps.count, phase)
 }
 
 // ---- an insert's way up
@@ -71,7 +65,7 @@ pub fn run_leaf(policy: &[u8], mem: &mut [u64; 157], node: usize, phase: u8) -> 
 // The nearest node above, on whose left side this one is, whose right side is asked about the insert, or NONE.
 pub fn taker(policy: &[u8], mem: &[u64; 157], node: usize, b: u8) -> usize
     requires { ⌜ Stands (now policy) (now mem) node ⌝ }
-    ensures { λ r. ⌜ (r ≤ 31) × Finds (now (policy .entry)) (now (mem .entry)) node b (ltb r 31) r ⌝ }
+    ensures { λ r. ⌜ (r ≤ mostNodes) × Finds (now (policy .entry)) (now (mem .entry)) node b (ltb r mostNodes) r ⌝ }
 {
     let mut at = node;
     loop {

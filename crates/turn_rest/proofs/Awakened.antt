@@ -10,19 +10,20 @@ use lib.Dec.{eqb-refl}
 use lib.ListN.{length, getD, set, length-set}
 use lib.Seq.{getD-set-same, getD-set-other}
 use Rattle.actions.specs.Sets.{ActionSet}
-use Rattle.policy.specs.Bytes.{Bytes}
-use Rattle.policy.specs.Records.{Node, nodeCount, nodePlace, nodeAt}
-use Rattle.policy.specs.Steps.{Step}
-use Rattle.policy.specs.Tree.{places, Tree, leaf, trivial, unsatisfiable, node, tree}
-use Rattle.rules.specs.Lawful.{holds}
-use Rattle.rules.specs.Passed.{Passed}
-use Rattle.rules.proofs.Grown.{EachLeaf, grown-leaves}
-use Rattle.rules.proofs.Numbers.{node-in}
-use Rattle.lawful.proofs.LawfulTree.{numbers-below-nodes}
-use Rattle.turns.specs.Status.{running, statusOf, isRunning}
-use Rattle.turns.specs.State.{State, over, noded}
-use Rattle.turns.specs.Turn.{fresh}
-use Rattle.conduct.proofs.Cells.{Below, below-here, below-left, below-right}
+use Rattle.spec_policy.specs.Bytes.{Bytes}
+use Rattle.spec_policy.specs.Records.{Node, nodeCount, nodePlace, nodeAt}
+use Rattle.spec_policy.specs.Steps.{Step}
+use Rattle.spec_policy.specs.Tree.{places, Tree, leaf, trivial, unsatisfiable, node, tree}
+use Rattle.spec_check.specs.Lawful.{holds}
+use Rattle.spec_check.specs.Passed.{Passed}
+use Rattle.spec_check.proofs.Grown.{EachLeaf, grown-leaves}
+use Rattle.spec_check.proofs.Numbers.{node-in}
+use Rattle.laws_check.proofs.LawfulTree.{numbers-below-nodes}
+use Rattle.spec_turns.specs.Status.{running, statusOf, isRunning}
+use Rattle.spec_turns.specs.State.{State, over, noded}
+use Rattle.spec_turns.specs.Turn.{fresh}
+use Rattle.laws_turns.proofs.Cells.{below-here, below-left, below-right}
+use Rattle.laws_turns.specs.Cells.{Below}
 use Rattle.turn_paths.specs.Memory.{Cell, Mem, leafed, held}
 use Rattle.turn_memory.specs.Words.{Words, packed, celled, view}
 use Rattle.turn_tables.proofs.FileNodes.{room}

@@ -8,23 +8,23 @@ use mathlib.Core.List.{List}
 use lib.Dec.{T, eqb-refl}
 use lib.ListN.{length}
 use Rattle.actions.specs.Sets.{ActionSet}
-use Rattle.policy.specs.Bytes.{Bytes, number}
-use Rattle.policy.specs.Records.{mostNodes, nodeCount}
-use Rattle.policy.specs.Steps.{Step}
-use Rattle.policy.specs.Tree.{Way, Join, and, or, Tree, leaf, trivial, unsatisfiable, node, tree}
-use Rattle.policy.proofs.ByteLaws.{Small, number-less}
-use Rattle.policy.proofs.NumberLaws.{number-join}
-use Rattle.rules.specs.Lawful.{holds}
-use Rattle.rules.specs.Passed.{Passed}
-use Rattle.lawful.proofs.LawfulTree.{numbers-below-nodes}
-use Rattle.turns.specs.Status.{Status, running, ended, endedLeft, endedRight, halted, dropped, statusOf, isRunning}
-use Rattle.turns.specs.State as states
-use Rattle.turns.specs.State.{State, at, over, leafOver, noded}
-use Rattle.turns.specs.Saved.{stateSize, cellPlace, statusAt, offsetAt, zerosAt, counterAt, load, fits}
-use Rattle.turns.proofs.Rest.{gone, decidedBy, Rest, leaf-waits, leaf-ended, leaf-halted, trivial-ended, unsatisfiable-halted, pair-runs, pair-decided}
-use Rattle.conduct.proofs.Cells.{holds-here, holds-left, holds-right}
-use Rattle.conduct.proofs.Fits.{fitting, fits-load}
-use Rattle.conduct.proofs.Lasting.{in-cells}
+use Rattle.spec_policy.specs.Bytes.{Bytes, number, Small}
+use Rattle.spec_policy.specs.Records.{mostNodes, nodeCount}
+use Rattle.spec_policy.specs.Steps.{Step}
+use Rattle.spec_policy.specs.Tree.{Way, Join, and, or, Tree, leaf, trivial, unsatisfiable, node, tree}
+use Rattle.spec_policy.proofs.ByteLaws.{number-less}
+use Rattle.spec_policy.proofs.NumberLaws.{number-join}
+use Rattle.spec_check.specs.Lawful.{holds}
+use Rattle.spec_check.specs.Passed.{Passed}
+use Rattle.laws_check.proofs.LawfulTree.{numbers-below-nodes}
+use Rattle.spec_turns.specs.Status.{Status, running, ended, endedLeft, endedRight, halted, dropped, statusOf, isRunning}
+use Rattle.spec_turns.specs.State as states
+use Rattle.spec_turns.specs.State.{State, at, over, leafOver, noded}
+use Rattle.spec_turns.specs.Saved.{cellSize, stateSize, cellPlace, statusAt, offsetAt, zerosAt, counterAt, load, fits}
+use Rattle.spec_turns.specs.Rest.{gone, decidedBy, Rest, leaf-waits, leaf-ended, leaf-halted, trivial-ended, unsatisfiable-halted, pair-runs, pair-decided}
+use Rattle.laws_turns.proofs.Cells.{holds-here, holds-left, holds-right}
+use Rattle.laws_turns.proofs.Fits.{fitting, fits-load}
+use Rattle.laws_turns.proofs.Lasting.{in-cells}
 use Rattle.turn_paths.specs.Memory.{Cell, Mem, leafed, held}
 use Rattle.turn_paths.proofs.Begin.{drop-held, noded-over}
 use Rattle.turn_memory.specs.Words.{Words, packed, celled, view}
@@ -88,7 +88,7 @@ held-rest (node w j i l r) bs m h p =
 -- ---- a record as one word
 
 module _ (bs : Bytes) (small : Small bs) (size : length bs ≡ stateSize) (i : ℕ) (below : i < mostNodes) (zero : zerosAt bs i ≡ 0) where
-  word-packed : number bs (8 * i) 8 ≡ packed (statusAt bs i) (offsetAt bs i) 0 (counterAt bs i)
+  word-packed : number bs (cellPlace i) cellSize ≡ packed (statusAt bs i) (offsetAt bs i) 0 (counterAt bs i)
   unfolding statusAt offsetAt zerosAt counterAt cellPlace
   word-packed =
       let e : 8 * i + 1 + 1 ≡ 8 * i + 2 = omega arith in
@@ -103,7 +103,7 @@ module _ (bs : Bytes) (small : Small bs) (size : length bs ≡ stateSize) (i : �
         ap (λ (k : ℕ). number bs k 4) f,
       )
 
-  cell-loaded : celled (number bs (8 * i) 8) ≡ loaded bs i
+  cell-loaded : celled (number bs (cellPlace i) cellSize) ≡ loaded bs i
   cell-loaded =
       ap celled word-packed
       ∙ celled-packed (statusAt bs i) (offsetAt bs i) 0 (counterAt bs i) (unfold statusAt in number-less bs (cellPlace i) 1 small (unfold cellPlace in omega arith))

@@ -1,18 +1,14 @@
--- A record of the saved state as one word and as its eight bytes, and zeros after the records. Assumes nothing.
-use Prim.Native.Nat.{ℕ, zero, suc, _+_, _-_, _*_, _/_, _%_, _≤_, _<_}
+-- A record of the saved state as one word, and the bytes that spell it. Assumes nothing.
+use Prim.Native.Nat.{ℕ, zero, suc, _/_, _%_, _≤_, _<_}
 use native.Mathlib.Omega.{arith}
-use native.Mathlib.Nat.{div-one}
 use mathlib.Core.Path.{_≡_, refl, sym, ap, _∙_}
 use mathlib.Core.Bool.{Bool}
 use mathlib.Core.List.{[], _∷_}
 use lib.Dec.{eqb}
-use lib.ListN.{length, set, replicate, length-replicate, length-set, replicate-append-replicate}
-use lib.Seq.{sets}
-use Rattle.policy.specs.Bytes.{Bytes, spell, put}
-use Rattle.policy.proofs.ByteLaws.{put-sets, put-none, put-append}
-use Rattle.turns.specs.Status.{Status, running, ended, endedLeft, endedRight, halted, dropped, statusNumber, statusOf, isRunning}
-use Rattle.turns.specs.State.{status, offset, counter, leafOver}
-use Rattle.turns.specs.Saved.{cellPlace, cell}
+use Rattle.spec_policy.specs.Bytes.{spell}
+use Rattle.spec_turns.specs.Status.{Status, running, ended, endedLeft, endedRight, halted, dropped, statusNumber, statusOf, isRunning}
+use Rattle.spec_turns.specs.State.{status, offset, counter, leafOver}
+use Rattle.spec_turns.specs.Saved.{cell}
 use Rattle.turn_paths.specs.Memory.{leafed}
 use Rattle.turn_memory.specs.Words.{packed}
 
@@ -53,40 +49,6 @@ number-runs halted = refl
 number-runs dropped = refl
 
 -- ---- the bytes of a word
-
--- eight bytes, one after another
-eight : (bs : Bytes) (p a b c d e f g h : ℕ)
-    → set (set (set (set (set (set (set (set bs p a) (p + 1) b) (p + 2) c) (p + 3) d) (p + 4) e) (p + 5) f) (p + 6) g) (p + 7) h
-    ≡ sets bs p (a ∷ b ∷ c ∷ d ∷ e ∷ f ∷ g ∷ h ∷ [])
-eight bs p a b c d e f g h =
-    let e1 : p + 1 ≡ suc p = omega arith in
-    let e2 : p + 2 ≡ suc (suc p) = omega arith in
-    let e3 : p + 3 ≡ suc (suc (suc p)) = omega arith in
-    let e4 : p + 4 ≡ suc (suc (suc (suc p))) = omega arith in
-    let e5 : p + 5 ≡ suc (suc (suc (suc (suc p)))) = omega arith in
-    let e6 : p + 6 ≡ suc (suc (suc (suc (suc (suc p))))) = omega arith in
-    let e7 : p + 7 ≡ suc (suc (suc (suc (suc (suc (suc p)))))) = omega arith in
-    rw (e1, e2, e3, e4, e5, e6, e7)
-
-pub record-put : (bs : Bytes) (i x : ℕ) → length bs ≡ 248 → i < 31
-    → set (set (set (set (set (set (set (set bs (8 * i) (x / 72057594037927936 % 256)) (8 * i + 1) (x / 281474976710656 % 256)) (8 * i + 2) (x / 1099511627776 % 256))
-    (8 * i + 3) (x / 4294967296 % 256)) (8 * i + 4) (x / 16777216 % 256)) (8 * i + 5) (x / 65536 % 256)) (8 * i + 6) (x / 256 % 256)) (8 * i + 7) (x % 256)
-    ≡ put bs (cellPlace i) (spell 8 x)
-unfolding cellPlace spell
-record-put bs i x h l =
-    let z : x % 256 ≡ x / 1 % 256 = ap (λ (y : ℕ). y % 256) (sym (div-one x)) in
-    eight bs (8 * i) (x / 72057594037927936 % 256) (x / 281474976710656 % 256) (x / 1099511627776 % 256) (x / 4294967296 % 256) (x / 16777216 % 256)
-    (x / 65536 % 256) (x / 256 % 256) (x % 256)
-    ∙ ap (λ (y : ℕ). sets bs (8 * i) (x / 72057594037927936 % 256
-    ∷ x / 281474976710656 % 256
-    ∷ x / 1099511627776 % 256
-    ∷ x / 4294967296 % 256
-    ∷ x / 16777216 % 256
-    ∷ x / 65536 % 256
-    ∷ x / 256 % 256
-    ∷ y
-    ∷ [])) z
-    ∙ sym (put-sets bs (8 * i) (spell 8 x) (omega arith))
 
 -- a cell without its mark, byte by byte
 module _ (s o c : ℕ) (hs : s < 256) (ho : o < 256) (hc : c < 4294967296) where
@@ -174,41 +136,3 @@ module _ (s : Status) (m : Bool) {n : ℕ} (is : n ≡ statusNumber s) where
 
   pub word-bare : spell 8 (packed n 0 0 0) ≡ cell (leafed s m 0 0)
   word-bare = spelt-bare ∙ bare-cell s m
-
--- ---- zeros after the records
-
-pub record Cleared (from : ℕ) (bs₀ bs : Bytes) (i : ℕ) : Type 0 where
-  pub low : from ≤ i
-  pub most : i ≤ length bs₀
-  pub size : length bs ≡ length bs₀
-  pub is : bs ≡ put bs₀ from (replicate (i - from) 0)
-
-pub cleared-none : (from : ℕ) (bs : Bytes) → from ≤ length bs → Cleared from bs bs from
-cleared-none from bs h =
-    let e : from - from ≡ 0 = omega arith in
-    record {
-      low = omega arith;
-      most = h;
-      size = refl;
-      is = sym (ap (λ (k : ℕ). put bs from (replicate k 0)) e ∙ put-none bs from);
-    }
-
-pub cleared-more : {from i : ℕ} {bs₀ bs : Bytes} → Cleared from bs₀ bs i → i < length bs₀ → Cleared from bs₀ (set bs i 0) (i + 1)
-cleared-more {from} {i} {bs₀} {bs} g h =
-    let k : ℕ = i - from in
-    let e : k + 1 ≡ i + 1 - from = omega (arith, g .low) in
-    let z : length (replicate k zero) ≡ k = length-replicate k zero in
-    record {
-      low = omega (arith, g .low);
-      most = omega arith;
-      size = length-set bs i 0 ∙ g .size;
-      is = sym (put-sets bs i (0 ∷ []) (omega (arith, g .size)))
-          ∙ ap (λ (l : Bytes). put l i (0 ∷ [])) (g .is)
-          ∙ put-append bs₀ from (replicate k 0) i (0 ∷ []) (omega (arith, g .low)) (omega arith)
-          ∙ ap (put bs₀ from) (replicate-append-replicate k 1 0 ∙ ap (λ (m : ℕ). replicate m zero) e);
-    }
-
-pub cleared-all : {from i : ℕ} {bs₀ bs : Bytes} → Cleared from bs₀ bs i → length bs₀ ≤ i → bs ≡ put bs₀ from (replicate (length bs₀ - from) 0)
-cleared-all {from} {i} {bs₀} g h =
-    let e : i ≡ length bs₀ = omega (arith, g .most) in
-    g .is ∙ ap (λ (k : ℕ). put bs₀ from (replicate (k - from) 0)) e

@@ -8,17 +8,17 @@ use lib.ListN.{set}
 use types.Run.{OneOf, miss}
 use denote.Enum.Declared.{tagOf}
 use borrow.Author.Tests.{eq-eqb, ne-eqb}
-use Rattle.policy.specs.Bytes.{Bytes, spell}
-use Rattle.policy.specs.Records.{Node, nodePlace, nodeAt}
-use Rattle.policy.specs.Tree.{NodeKind, aLeaf, nodeKind}
-use Rattle.turns.specs.Status.{statusNumber}
-use Rattle.turns.specs.Saved.{cell}
-use Rattle.reading.specs.Kinds.{kindOf}
-use Rattle.reading.proofs.Kind.{the-type}
-use Rattle.reading.specs.declared.Kind.{Kind}
-use Rattle.reading.specs.declared.Kind.the-variants as kinds
-use Rattle.reading.specs.declared.Way as ways
-use Rattle.reading.specs.declared.Join as joins
+use Rattle.spec_policy.specs.Bytes.{Bytes, spell}
+use Rattle.spec_policy.specs.Records.{Node, nodePlace, nodeAt}
+use Rattle.spec_policy.specs.Tree.{NodeKind, aLeaf, nodeKind}
+use Rattle.spec_turns.specs.Status.{statusNumber}
+use Rattle.spec_turns.specs.Saved.{cell}
+use Rattle.file_records.specs.Kinds.{kindOf}
+use Rattle.file_records.proofs.Kind.{the-type}
+use Rattle.file_records.specs.declared.Kind.{Kind}
+use Rattle.file_records.specs.declared.Kind.the-variants as kinds
+use Rattle.file_records.specs.declared.Way as ways
+use Rattle.file_records.specs.declared.Join as joins
 use Rattle.turn_memory.specs.Words.{Words, packed, view}
 use Rattle.turn_rest.specs.Rest.{ownOf, droppedWord, sidesOver, underOf, recordAt, kindAt, runsAt, Rested}
 use Rattle.turn_rest.proofs.RecordLaws.{number-runs, word-bare}

@@ -10,18 +10,19 @@ use lib.Dec.{T, eqb, eqb→eq}
 use lib.ListN.{length, set, length-set}
 use borrow.Author.Tests.{ne-eqb}
 use Rattle.actions.proofs.Tests.{no-of, or-cases, true-not-false}
-use Rattle.policy.specs.Bytes.{Bytes, put}
-use Rattle.policy.specs.Records.{mostNodes, nodeCount}
-use Rattle.policy.specs.Tree.{Way, Join, NodeKind, aLeaf, aTrivial, anUnsatisfiable, aPair, noNode, Place, Tree, node, treeAt, tree}
-use Rattle.rules.specs.Lawful.{holds, Numbered}
-use Rattle.rules.specs.Passed.{Passed}
-use Rattle.rules.proofs.Grown.{shaped}
-use Rattle.rules.proofs.Numbers.{ChildrenLater, tree-read, children-read, tree-top, number-at, all-held}
-use Rattle.lawful.proofs.LawfulTree.{lawful}
-use Rattle.turns.specs.Status.{dropped, statusOf, isRunning}
-use Rattle.turns.specs.State.{State, over, status, noded}
-use Rattle.turns.specs.Saved.{stateSize, cellPlace, cell}
-use Rattle.conduct.proofs.Cells.{Apart, lawful-apart, holds-left, holds-right, cellAt, put-size, put-cell, put-elsewhere}
+use Rattle.spec_policy.specs.Bytes.{Bytes, put}
+use Rattle.spec_policy.specs.Records.{mostNodes, nodeCount}
+use Rattle.spec_policy.specs.Tree.{Way, Join, NodeKind, aLeaf, aTrivial, anUnsatisfiable, aPair, noNode, Place, Tree, node, treeAt, tree}
+use Rattle.spec_check.specs.Lawful.{holds, Numbered}
+use Rattle.spec_check.specs.Passed.{Passed}
+use Rattle.spec_check.specs.Numbers.{shaped, Distinct}
+use Rattle.spec_check.proofs.Numbers.{ChildrenLater, tree-read, children-read, tree-top, number-at, all-held}
+use Rattle.laws_check.proofs.LawfulTree.{lawful}
+use Rattle.spec_turns.specs.Status.{dropped, statusOf, isRunning}
+use Rattle.spec_turns.specs.State.{State, over, status, noded}
+use Rattle.spec_turns.specs.Saved.{stateSize, cellPlace, cell}
+use Rattle.laws_turns.proofs.Cells.{lawful-apart, holds-left, holds-right, put-size, put-cell, put-elsewhere}
+use Rattle.laws_turns.specs.Cells.{cellAt}
 use Rattle.turn_paths.specs.Memory.{Cell, Mem, held}
 use Rattle.turn_paths.proofs.Begin.{drop-held, noded-over}
 use Rattle.turn_paths.proofs.Frames.{same-or-not, own-number, held-same, not-left-of-right, not-right-of-left}
@@ -62,8 +63,8 @@ module _ (w : Way) (j : Join) (i : ℕ) (a b : Tree) (m m′ : Mem) (stops : isR
   noded-same : (n : ℕ) {x y x′ y′ : State} → m′ n ≡ m n → x′ ≡ x → y′ ≡ y → noded (m′ n .status) (m′ n .asked) x′ y′ ≡ noded (m n .status) (m n .asked) x y
   noded-same n {x} {y} e p q = ap₂ (noded (m′ n .status) (m′ n .asked)) p q ∙ ap (λ (c : Cell). noded (c .status) (c .asked) x y) e
 
-  held-under : {t : Tree} → Apart t → Has t (node w j i a b) → held t m′ ≡ held t m
-  unfolding Apart held
+  held-under : {t : Tree} → Distinct t → Has t (node w j i a b) → held t m′ ≡ held t m
+  unfolding Distinct held
   held-under ap here = held-here (ap .2)
   held-under ap (in-left {i = n} {l} {r} h) =
       noded-same n (kept-outside h n (ap .2 .not-left)) (held-under (ap .0) h)

@@ -6,22 +6,23 @@ use mathlib.Core.Bool.{Bool, true, false}
 use mathlib.Core.List.{_++_, append-nil}
 use lib.ListN.{length, take, drop, replicate, length-replicate, length-drop, drop-of-length-le}
 use lib.Seq.{drop-at, length-take-le}
-use Rattle.policy.specs.Bytes.{Bytes, put}
-use Rattle.policy.proofs.ByteLaws.{part-before, zeros-are}
-use Rattle.policy.specs.Records.{nodeCount}
-use Rattle.policy.specs.Tree.{Way, Join, NodeKind, aLeaf, aTrivial, anUnsatisfiable, aPair, noNode, Place, Tree, leaf, trivial, unsatisfiable, node, numberOf, treeAt, tree}
-use Rattle.rules.specs.Passed.{Passed}
-use Rattle.rules.proofs.Grown.{shaped}
-use Rattle.rules.proofs.Numbers.{number-at, all-held}
-use Rattle.lawful.proofs.LawfulTree.{lawful, numbers-below-nodes}
-use Rattle.turns.specs.Status.{Status, dropped, isRunning}
-use Rattle.turns.specs.State as states
-use Rattle.turns.specs.State.{State, at, over, status, offset, counter, leftOf, rightOf, leafOver, noded}
-use Rattle.turns.specs.Saved.{cellSize, cellPlace, cell, saved}
-use Rattle.turns.proofs.Rest.{gone}
-use Rattle.conduct.proofs.Cells.{lawful-apart, cellAt, Kept, kept-same, cells-same, saved-length, saved-kept}
-use Rattle.conduct.proofs.Fits.{saved-tail}
-use Rattle.conduct.proofs.Lasting.{in-cells}
+use Rattle.spec_policy.specs.Bytes.{Bytes, put}
+use Rattle.spec_policy.proofs.ByteLaws.{part-before, zeros-are}
+use Rattle.spec_policy.specs.Records.{nodeCount}
+use Rattle.spec_policy.specs.Tree.{Way, Join, NodeKind, aLeaf, aTrivial, anUnsatisfiable, aPair, noNode, Place, Tree, leaf, trivial, unsatisfiable, node, numberOf, treeAt, tree}
+use Rattle.spec_check.specs.Passed.{Passed}
+use Rattle.spec_check.specs.Numbers.{shaped}
+use Rattle.spec_check.proofs.Numbers.{number-at, all-held}
+use Rattle.laws_check.proofs.LawfulTree.{lawful, numbers-below-nodes}
+use Rattle.spec_turns.specs.Status.{Status, dropped, isRunning}
+use Rattle.spec_turns.specs.State as states
+use Rattle.spec_turns.specs.State.{State, at, over, status, offset, counter, leftOf, rightOf, leafOver, noded}
+use Rattle.spec_turns.specs.Saved.{cellSize, cellPlace, cell, saved}
+use Rattle.spec_turns.specs.Rest.{gone}
+use Rattle.laws_turns.proofs.Cells.{lawful-apart, Kept, kept-same, cells-same, saved-length, saved-kept}
+use Rattle.laws_turns.specs.Cells.{cellAt}
+use Rattle.laws_turns.proofs.Fits.{saved-tail}
+use Rattle.laws_turns.proofs.Lasting.{in-cells}
 use Rattle.turn_paths.specs.Memory.{Mem, leafed, held}
 use Rattle.turn_paths.proofs.Begin.{drop-held, noded-over, left-held, right-held}
 use Rattle.turn_memory.specs.Words.{Words, view}
@@ -161,7 +162,6 @@ module _ {file : Bytes} (ok : Passed file) {ws₀ ws : Words} {state : Bytes} (g
 
 -- zeros are written after the records
 pub tidied : {file : Bytes} → Passed file → {n : ℕ} → n ≡ nodeCount file → {ws₀ ws : Words} {state out : Bytes} → Swept file ws₀ ws state n
-    → out ≡ put state (8 * n) (replicate (length state - 8 * n) 0) → out ≡ saved (tree file) (held (tree file) (view ws₀))
-unfolding cellPlace
+    → out ≡ put state (cellPlace n) (replicate (length state - cellPlace n) 0) → out ≡ saved (tree file) (held (tree file) (view ws₀))
 tidied {file} ok e {ws₀} {ws} {state} g h =
-    h ∙ ap (λ (k : ℕ). put state (8 * k) (replicate (length state - 8 * k) 0)) e ∙ all-tidied ok (subst (Swept file ws₀ ws state) e g)
+    h ∙ ap (λ (k : ℕ). put state (cellPlace k) (replicate (length state - cellPlace k) 0)) e ∙ all-tidied ok (subst (Swept file ws₀ ws state) e g)

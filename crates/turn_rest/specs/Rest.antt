@@ -1,14 +1,14 @@
 -- The memory of a call at its begin and its end: what is read into it, what it leaves, and what of a node is saved. Assumes nothing.
-use Prim.Native.Nat.{ℕ, _*_, _≤_, _<_}
+use Prim.Native.Nat.{ℕ, _≤_, _<_}
 use mathlib.Core.Path.{_≡_}
 use mathlib.Core.Bool.{Bool, true, false}
 use lib.ListN.{length, getD, set}
-use Rattle.policy.specs.Bytes.{Bytes, number, spell}
-use Rattle.policy.specs.Records.{Node, nodePlace, nodeAt}
-use Rattle.policy.specs.Tree.{NodeKind, aLeaf, aTrivial, anUnsatisfiable, aPair, noNode, nodeKind}
-use Rattle.turns.specs.Status.{isRunning}
-use Rattle.turns.specs.State.{State}
-use Rattle.turns.specs.Saved.{cell}
+use Rattle.spec_policy.specs.Bytes.{Bytes, number, spell}
+use Rattle.spec_policy.specs.Records.{Node, nodePlace, nodeAt}
+use Rattle.spec_policy.specs.Tree.{NodeKind, aLeaf, aTrivial, anUnsatisfiable, aPair, noNode, nodeKind}
+use Rattle.spec_turns.specs.Status.{isRunning}
+use Rattle.spec_turns.specs.State.{State}
+use Rattle.spec_turns.specs.Saved.{cellSize, cellPlace, cell}
 use Rattle.turn_paths.specs.Memory.{Cell, leafed}
 use Rattle.turn_memory.specs.Words.{Words, packed, view}
 
@@ -19,7 +19,7 @@ pub record KeptFrom (n : ℕ) (ws ws′ : Words) : Type 0 where
 
 -- the word of each of n nodes is its record of the saved state, as one number
 abbrev pub Woken : ℕ → Bytes → Words → Type 0
-Woken n state ws = (i : ℕ) → i < n → getD ws i 0 ≡ number state (8 * i) 8
+Woken n state ws = (i : ℕ) → i < n → getD ws i 0 ≡ number state (cellPlace i) cellSize
 
 -- ---- the end of a call
 

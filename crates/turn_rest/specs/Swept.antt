@@ -3,11 +3,11 @@ use Prim.Native.Nat.{ℕ, _≤_, _<_}
 use mathlib.Core.Path.{_≡_}
 use mathlib.Core.Bool.{false}
 use lib.ListN.{length, take, drop}
-use Rattle.policy.specs.Bytes.{Bytes}
-use Rattle.policy.specs.Records.{nodeCount}
-use Rattle.policy.specs.Tree.{Way, Join, aPair, tree}
-use Rattle.turns.specs.Status.{dropped}
-use Rattle.turns.specs.Saved.{cellSize, stateSize, cellPlace, cell}
+use Rattle.spec_policy.specs.Bytes.{Bytes}
+use Rattle.spec_policy.specs.Records.{nodeCount}
+use Rattle.spec_policy.specs.Tree.{Way, Join, aPair, tree}
+use Rattle.spec_turns.specs.Status.{dropped}
+use Rattle.spec_turns.specs.Saved.{cellSize, stateSize, cellPlace, cell}
 use Rattle.turn_paths.specs.Memory.{held}
 use Rattle.turn_memory.specs.Words.{Words, wordCount, view}
 use Rattle.turn_rest.specs.Rest.{ownOf, recordAt, kindAt, runsAt}

@@ -2,24 +2,20 @@
 ghost use mathlib.Core.Path.{_≡_};
 ghost use Prim.Native.Nat.{_≤_};
 ghost use lib.ListN.{length};
-ghost use Rattle.policy.specs.Records.{mostNodes, nodeCount};
-ghost use Rattle.policy.specs.Tree.{tree};
-ghost use Rattle.rules.specs.Passed.{Passed};
-ghost use Rattle.turns.specs.Turn.{fresh};
-ghost use Rattle.turns.specs.Saved.{stateSize};
+ghost use Rattle.spec_policy.specs.Records.{mostNodes, nodeCount};
+ghost use Rattle.spec_policy.specs.Tree.{tree};
+ghost use Rattle.spec_check.specs.Passed.{Passed};
+ghost use Rattle.spec_turns.specs.Turn.{fresh};
+ghost use Rattle.spec_turns.specs.Saved.{stateSize};
 ghost use Rattle.turn_paths.specs.Memory.{held};
 ghost use Rattle.turn_memory.specs.Words.{wordCount, view};
 ghost use Rattle.turn_rest.specs.Rest.{KeptFrom, Woken};
-use reading::node_place;
-use reading::node_start;
-use reading::word64;
+use file_view::view_start;
 use turn_memory::put;
-
-const RECORD: usize = 8;
+use turn_state::RUNNING;
+use turn_state::saved_word;
 
 // A node that is not yet opened counts as running, and owes the phase after the verdict, which opening is.
-const RUNNING: u8 = 1;
-
 const MARKED: u8 = 1;
 
 // The memory of a call that opens: every node runs, is marked, and stands at its start. A node that is no leaf has the start zero: rule 4.
@@ -31,14 +27,7 @@ pub fn awaken(policy: &[u8], n: usize, mem: &mut [u64; 157])
 {
     let mut i = 0;
     while i < n {
-        put(
-            mem,
-            i,
-            RUNNING,
-            0,
-            MARKED,
-            node_start(policy, node_place(i)),
-        );
+        put(mem, i, RUNNING, 0, MARKED, view_start(policy, i));
         i += 1;
     }
 }
@@ -50,7 +39,7 @@ pub fn wake(state: &[u8], n: usize, mem: &mut [u64; 157])
 {
     let mut i = 0;
     while i < n {
-        mem[i] = word64(state, RECORD * i);
+        mem[i] = saved_word(state, i);
         i += 1;
     }
 }

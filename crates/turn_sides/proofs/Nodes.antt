@@ -2,14 +2,15 @@
 use Prim.Native.Nat.{ℕ, _≤_, _<_}
 use native.Mathlib.Omega.{arith}
 use mathlib.Core.Path.{_≡_, refl}
-use Rattle.policy.specs.Bytes.{Bytes}
-use Rattle.policy.specs.Records.{nodePlace, rowPlace, nodeAt, nodeCount}
-use Rattle.policy.specs.Tree.{node, treeAt}
-use Rattle.rules.specs.Lawful.{Numbered}
-use Rattle.rules.proofs.Grown.{shaped}
-use Rattle.rules.proofs.Numbers.{ChildrenLater, tree-read, children-read, numbered-read}
-use Rattle.rules.specs.Passed.{Passed}
-use Rattle.rules.proofs.Rows.{CountsFit, counts-fit}
+use Rattle.spec_policy.specs.Bytes.{Bytes}
+use Rattle.spec_policy.specs.Records.{nodePlace, rowPlace, nodeAt, nodeCount}
+use Rattle.spec_policy.specs.Tree.{node, treeAt}
+use Rattle.spec_check.specs.Lawful.{Numbered}
+use Rattle.spec_check.specs.Numbers.{shaped}
+use Rattle.spec_check.proofs.Numbers.{ChildrenLater, tree-read, children-read, numbered-read}
+use Rattle.spec_check.specs.Passed.{Passed}
+use Rattle.spec_check.proofs.Rows.{counts-fit}
+use Rattle.spec_check.specs.Layout.{CountsFit}
 use Rattle.turn_sides.specs.Sides.{kindAt, leftAt, rightAt, joinAt, wayAt, Placed, Sided}
 
 module _ (policy : Bytes) (ok : Passed policy) (i : ℕ) (h : i < nodeCount policy) where

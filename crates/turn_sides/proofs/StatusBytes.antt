@@ -5,9 +5,9 @@ use mathlib.Core.Bool.{Bool, true, false, _&&_, _||_, not}
 use lib.Dec.{eqb}
 use borrow.Author.Tests.{lt-ltb, le-ltb, ne-eqb, eqb-true, eqb-false}
 use Rattle.actions.specs.Sets.{ActionSet, has}
-use Rattle.policy.specs.Tree.{Join, and, or}
-use Rattle.turns.specs.Status.{Status, isRunning, running, ended, endedLeft, endedRight, halted, hasEnded, isHalted, joined}
-use Rattle.turns.specs.Turn.{Phase, before, after, closing, stillAsked}
+use Rattle.spec_policy.specs.Tree.{Join, and, or}
+use Rattle.spec_turns.specs.Status.{Status, isRunning, running, ended, endedLeft, endedRight, halted, hasEnded, isHalted, joined}
+use Rattle.spec_turns.specs.Turn.{Phase, before, after, closing, stillAsked}
 use Rattle.turn_memory.specs.Phases.{afterNumber, phaseOf}
 use Rattle.turn_paths.specs.Memory.{Cell}
 use Rattle.turn_paths.specs.Choices.{emits, goesOn, endSup, askedIn}

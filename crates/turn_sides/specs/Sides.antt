@@ -2,10 +2,10 @@
 use Prim.Native.Nat.{ℕ, _+_, _≤_, _<_}
 use mathlib.Core.Path.{_≡_}
 use lib.ListN.{length}
-use Rattle.policy.specs.Bytes.{Bytes}
-use Rattle.policy.specs.Records.{nodeSize, nodePlace, nodeAt, nodeCount}
-use Rattle.policy.specs.Tree.{Way, parallel, Join, and, NodeKind, aLeaf, aTrivial, anUnsatisfiable, aPair, noNode, nodeKind}
-use Rattle.rules.specs.Passed.{Passed}
+use Rattle.spec_policy.specs.Bytes.{Bytes}
+use Rattle.spec_policy.specs.Records.{nodeSize, nodePlace, nodeAt, nodeCount}
+use Rattle.spec_policy.specs.Tree.{Way, parallel, Join, and, NodeKind, aLeaf, aTrivial, anUnsatisfiable, aPair, noNode, nodeKind}
+use Rattle.spec_check.specs.Passed.{Passed}
 
 unfoldable pub kindAt : Bytes → ℕ → NodeKind
 kindAt policy i = nodeKind (nodeAt policy (nodePlace i) .kind)

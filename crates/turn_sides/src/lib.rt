@@ -3,24 +3,30 @@ ghost use mathlib.Core.Path.{_≡_};
 ghost use Prim.Native.Nat.{_+_, _<_};
 ghost use lib.Dec.{eqb};
 ghost use lib.ListN.{getD};
-ghost use Rattle.policy.specs.Records.{mostNodes};
-ghost use Rattle.policy.specs.Tree.{and, or};
-ghost use Rattle.turns.specs.Status.{statusOf, isRunning, hasEnded, isHalted, joined};
-ghost use Rattle.turns.specs.Turn.{stillAsked};
-ghost use Rattle.reading.specs.Kinds.{joinOf};
+ghost use Rattle.spec_policy.specs.Records.{mostNodes};
+ghost use Rattle.spec_policy.specs.Tree.{and, or};
+ghost use Rattle.spec_turns.specs.Status.{statusOf, isRunning, joined};
+ghost use Rattle.spec_turns.specs.Turn.{stillAsked};
+ghost use Rattle.file_records.specs.Kinds.{joinOf};
 ghost use Rattle.turn_memory.specs.Words.{setPlace, view};
 ghost use Rattle.turn_memory.specs.Phases.{afterNumber, phaseOf};
 ghost use Rattle.turn_paths.specs.Choices.{emits, goesOn, endSup, askedIn, joinedIn};
 ghost use Rattle.turn_sides.specs.Sides.{leftAt, rightAt, joinAt, Placed, Sided};
 use actions::ActionSet;
-use reading::Join;
-use reading::Kind;
-use reading::node_kind;
-use reading::node_left;
-use reading::node_place;
-use reading::node_right;
+use file_records::Join;
+use file_records::Kind;
+use file_view::view_kind;
+use file_view::view_left;
+use file_view::view_right;
 use turn_memory::mark_at;
 use turn_memory::status_at;
+pub use turn_state::ENDED;
+use turn_state::ENDED_LEFT;
+use turn_state::ENDED_RIGHT;
+pub use turn_state::HALTED;
+use turn_state::RUNNING;
+use turn_state::has_ended;
+use turn_state::is_halted;
 
 // ---- a node's record
 
@@ -28,21 +34,21 @@ pub fn left_of(policy: &[u8], node: usize) -> usize
     requires { ⌜ Placed (now policy) node ⌝ }
     ensures { λ r. ⌜ r ≡ leftAt (now (policy .entry)) node ⌝ }
 {
-    node_left(policy, node_place(node)) as usize
+    view_left(policy, node) as usize
 }
 
 pub fn right_of(policy: &[u8], node: usize) -> usize
     requires { ⌜ Placed (now policy) node ⌝ }
     ensures { λ r. ⌜ r ≡ rightAt (now (policy .entry)) node ⌝ }
 {
-    node_right(policy, node_place(node)) as usize
+    view_right(policy, node) as usize
 }
 
 pub fn join_of(policy: &[u8], node: usize) -> Join
     requires { ⌜ Placed (now policy) node ⌝ }
     ensures { λ r. ⌜ joinOf r ≡ joinAt (now (policy .entry)) node ⌝ }
 {
-    let kind = node_kind(policy, node_place(node));
+    let kind = view_kind(policy, node);
     match kind {
         Kind::Leaf => Join::And,
         Kind::Trivial => Join::And,
@@ -54,37 +60,16 @@ pub fn join_of(policy: &[u8], node: usize) -> Join
 
 // ---- statuses
 
-pub const RUNNING: u8 = 1;
-
-pub const ENDED: u8 = 2;
-
-const ENDED_LEFT: u8 = 3;
-
-const ENDED_RIGHT: u8 = 4;
-
-pub const HALTED: u8 = 5;
-
 // The phase after the verdict, as a number: see turn_memory.
 pub const AFTER: u8 = 64;
 
 const SETS: usize = 64;
 
+// For turn_node, which has it from here: turn_state's.
 pub fn is_running(s: u8) -> bool
     ensures { λ r. ⌜ r ≡ isRunning (statusOf s) ⌝ }
 {
-    s == RUNNING
-}
-
-pub fn has_ended(s: u8) -> bool
-    ensures { λ r. ⌜ r ≡ hasEnded (statusOf s) ⌝ }
-{
-    (ENDED <= s) & (s <= ENDED_RIGHT)
-}
-
-pub fn is_halted(s: u8) -> bool
-    ensures { λ r. ⌜ r ≡ isHalted (statusOf s) ⌝ }
-{
-    s == HALTED
+    turn_state::is_running(s)
 }
 
 // "And": halted once a side has halted; ended once both have ended.

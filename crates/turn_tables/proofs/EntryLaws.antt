@@ -6,7 +6,7 @@ use mathlib.Core.Logic.{⊎-elim}
 use lib.ListN.{length, getD, set, length-set}
 use lib.Seq.{getD-set-same, getD-set-other}
 use Rattle.actions.specs.Sets.{union}
-use Rattle.policy.specs.Tree.{Way, parallel, sequential}
+use Rattle.spec_policy.specs.Tree.{Way, parallel, sequential}
 use Rattle.turn_paths.proofs.Frames.{same-or-not}
 use Rattle.turn_memory.specs.Words.{Words, abovePlace, linkPlace, wordCount}
 use Rattle.turn_tables.specs.Tables.{setAt, aboveAt, feederAt, firstAt}

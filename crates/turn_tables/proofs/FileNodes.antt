@@ -5,23 +5,24 @@ use mathlib.Core.Path.{_≡_, refl, sym, ap, ap₂, _∙_}
 use mathlib.Core.List.{List}
 use lib.ListN.{length}
 use Rattle.actions.specs.Sets.{EMPTY, union}
-use Rattle.policy.specs.Bytes.{Bytes}
-use Rattle.policy.specs.Records.{nodeSize, nodeCount, stepCount, nodePlace, rowPlace, Node, nodeAt}
-use Rattle.policy.specs.Steps.{Step}
-use Rattle.policy.specs.Tree.{aLeaf, nodeKind, owned, firstStep, places, leaf, treeAt, regulated}
-use Rattle.policy.proofs.NodeLaws.{first-over, first-in}
-use Rattle.rules.proofs.Grown.{placeIn, shaped}
-use Rattle.rules.proofs.Numbers as numbers
-use Rattle.rules.proofs.Numbers.{ChildrenLater, node-read, children-read}
-use Rattle.rules.specs.Passed.{Passed}
-use Rattle.rules.proofs.Rows.{CountsFit, counts-fit, leaf-owned, all-owned}
-use Rattle.reading.specs.Kinds.{kindOf}
-use Rattle.reading.specs.declared.Kind.{Kind}
-use Rattle.reading.specs.declared.Kind.the-variants as kinds
-use Rattle.reading.specs.declared.Way as declared
-use Rattle.reading.specs.declared.Join as joins
-use Rattle.reading.specs.Code.{codeAt}
-use Rattle.reading.proofs.CodeLaws.{node-code}
+use Rattle.spec_policy.specs.Bytes.{Bytes}
+use Rattle.spec_policy.specs.Records.{nodeSize, nodeCount, stepCount, nodePlace, rowPlace, Node, nodeAt}
+use Rattle.spec_policy.specs.Steps.{Step}
+use Rattle.spec_policy.specs.Tree.{aLeaf, nodeKind, owned, firstStep, places, leaf, treeAt, regulated}
+use Rattle.spec_policy.proofs.NodeLaws.{first-over, first-in}
+use Rattle.spec_check.specs.Numbers.{placeIn, shaped}
+use Rattle.spec_check.proofs.Numbers as numbers
+use Rattle.spec_check.proofs.Numbers.{ChildrenLater, node-read, children-read}
+use Rattle.spec_check.specs.Passed.{Passed}
+use Rattle.spec_check.proofs.Rows.{counts-fit, leaf-owned, all-owned}
+use Rattle.spec_check.specs.Layout.{CountsFit}
+use Rattle.file_records.specs.Kinds.{kindOf}
+use Rattle.file_records.specs.declared.Kind.{Kind}
+use Rattle.file_records.specs.declared.Kind.the-variants as kinds
+use Rattle.file_records.specs.declared.Way as declared
+use Rattle.file_records.specs.declared.Join as joins
+use Rattle.file_records.specs.Code.{codeAt}
+use Rattle.file_records.proofs.CodeLaws.{node-code}
 
 -- ---- the room of a node and of its steps
 
@@ -40,6 +41,10 @@ room {file} ok =
 pub node-room : {file : Bytes} → Passed file → (i at : ℕ) → i < nodeCount file → at ≡ nodePlace i → at + nodeSize ≤ length file
 unfolding nodePlace
 node-room ok i at h e = let r = room ok in omega arith
+
+-- what the view asks of a node
+pub node-in : {file : Bytes} → Passed file → (i : ℕ) → i < nodeCount file → (i ≤ 255) × (nodePlace i + nodeSize ≤ length file)
+node-in ok i h = (omega (arith, room ok .few), node-room ok i _ h refl)
 
 -- ---- the steps that a node owns
 

@@ -7,11 +7,11 @@ use mathlib.Core.Logic.{⊎-elim}
 use lib.ListN.{length, getD, set, length-set}
 use lib.Seq.{getD-set-same, getD-set-other}
 use Rattle.actions.specs.Sets.{EMPTY}
-use Rattle.policy.specs.Bytes.{Bytes}
-use Rattle.policy.specs.Records.{nodeCount, stepCount, nodePlace, nodeAt}
-use Rattle.policy.specs.Tree.{owned, firstStep, treeAt, regulated}
-use Rattle.policy.proofs.NodeLaws.{first-next}
-use Rattle.rules.specs.Passed.{Passed}
+use Rattle.spec_policy.specs.Bytes.{Bytes}
+use Rattle.spec_policy.specs.Records.{nodeCount, stepCount, nodePlace, nodeAt}
+use Rattle.spec_policy.specs.Tree.{owned, firstStep, treeAt, regulated}
+use Rattle.spec_policy.proofs.NodeLaws.{first-next}
+use Rattle.spec_check.specs.Passed.{Passed}
 use Rattle.turn_memory.specs.Words.{Words, setPlace, abovePlace, linkPlace, wordCount}
 use Rattle.turn_tables.specs.Tables.{setAt, Kept}
 use Rattle.turn_tables.specs.Entries.{wayUp, Fresh, Begun}

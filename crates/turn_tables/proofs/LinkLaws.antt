@@ -8,16 +8,16 @@ use mathlib.Core.Bool.{Bool, true, false}
 use lib.ListN.{getD}
 use Rattle.actions.specs.Sets.{EMPTY, union}
 use Rattle.actions.proofs.Tests.{true-not-false}
-use Rattle.policy.specs.Bytes.{Bytes}
-use Rattle.policy.specs.Records.{nodeCount, nodePlace, nodeAt}
-use Rattle.policy.specs.Tree.{Way, parallel, sequential, Join, NodeKind, aLeaf, aTrivial, anUnsatisfiable, aPair, noNode, nodeKind, treeAt, regulated}
-use Rattle.rules.specs.Passed.{Passed}
-use Rattle.rules.proofs.Numbers.{children-read, two-children, one-parent}
-use Rattle.reading.specs.Kinds.{wayOf, joinOf, kindOf}
-use Rattle.reading.specs.declared.Kind as kinds
-use Rattle.reading.specs.declared.Kind.the-variants as variants
-use Rattle.reading.specs.declared.Way as declared
-use Rattle.reading.specs.declared.Join as joins
+use Rattle.spec_policy.specs.Bytes.{Bytes}
+use Rattle.spec_policy.specs.Records.{nodeCount, nodePlace, nodeAt}
+use Rattle.spec_policy.specs.Tree.{Way, parallel, sequential, Join, NodeKind, aLeaf, aTrivial, anUnsatisfiable, aPair, noNode, nodeKind, treeAt, regulated}
+use Rattle.spec_check.specs.Passed.{Passed}
+use Rattle.spec_check.proofs.Numbers.{children-read, two-children, one-parent}
+use Rattle.file_records.specs.Kinds.{wayOf, joinOf, kindOf}
+use Rattle.file_records.specs.declared.Kind as kinds
+use Rattle.file_records.specs.declared.Kind.the-variants as variants
+use Rattle.file_records.specs.declared.Way as declared
+use Rattle.file_records.specs.declared.Join as joins
 use Rattle.turn_sides.specs.Sides.{kindAt, leftAt, rightAt, joinOfKind, joinAt, wayOfKind}
 use Rattle.turn_sides.proofs.Nodes.{Sides, few-nodes}
 use Rattle.turn_paths.proofs.Frames.{same-or-not}

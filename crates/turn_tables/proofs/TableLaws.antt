@@ -11,9 +11,9 @@ use lib.ListN.{getD}
 use Rattle.actions.specs.Sets.{Action, union, has}
 use Rattle.actions.proofs.SetLaws.{has-empty, has-union}
 use Rattle.actions.proofs.Tests.{of-yes, or-false-left, or-false-right, true-not-false}
-use Rattle.policy.specs.Bytes.{Bytes}
-use Rattle.policy.specs.Records.{nodeCount}
-use Rattle.policy.specs.Tree.{sequential, aPair, treeAt, regulated}
+use Rattle.spec_policy.specs.Bytes.{Bytes}
+use Rattle.spec_policy.specs.Records.{nodeCount}
+use Rattle.spec_policy.specs.Tree.{sequential, aPair, treeAt, regulated}
 use Rattle.turn_sides.specs.Sides.{kindAt, rightAt, joinAt}
 use Rattle.turn_memory.specs.Words.{Words, setPlace, linkPlace}
 use Rattle.turn_tables.specs.Tables.{aboveAt, feederAt, asFeeder, Linked, Tabled, risen, climb, pathAt, Passes}

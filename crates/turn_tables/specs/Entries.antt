@@ -3,9 +3,9 @@ use Prim.Native.Nat.{ℕ, _+_, _*_, _<_}
 use mathlib.Core.Path.{_≡_}
 use lib.ListN.{set}
 use Rattle.actions.specs.Sets.{EMPTY, union}
-use Rattle.policy.specs.Bytes.{Bytes}
-use Rattle.policy.specs.Records.{nodeCount}
-use Rattle.policy.specs.Tree.{Way, parallel, sequential, NodeKind, aLeaf, aTrivial, anUnsatisfiable, aPair, noNode}
+use Rattle.spec_policy.specs.Bytes.{Bytes}
+use Rattle.spec_policy.specs.Records.{nodeCount}
+use Rattle.spec_policy.specs.Tree.{Way, parallel, sequential, NodeKind, aLeaf, aTrivial, anUnsatisfiable, aPair, noNode}
 use Rattle.turn_sides.specs.Sides.{leftAt, rightAt}
 use Rattle.turn_memory.specs.Words.{Words, abovePlace, linkPlace}
 use Rattle.turn_tables.specs.Tables.{setAt, aboveAt, feederAt, firstAt, Kept, Entered}

@@ -7,9 +7,9 @@ use mathlib.Core.List.{List, [], _∷_}
 use lib.Dec.{ltb}
 use lib.ListN.{length, getD}
 use Rattle.actions.specs.Sets.{Action, EMPTY, union, has}
-use Rattle.policy.specs.Bytes.{Bytes}
-use Rattle.policy.specs.Records.{nodeCount}
-use Rattle.policy.specs.Tree.{Way, parallel, sequential, aPair, firstStep, treeAt, regulated}
+use Rattle.spec_policy.specs.Bytes.{Bytes}
+use Rattle.spec_policy.specs.Records.{nodeCount}
+use Rattle.spec_policy.specs.Tree.{Way, parallel, sequential, aPair, firstStep, treeAt, regulated}
 use Rattle.turn_sides.specs.Sides.{kindAt, leftAt, rightAt, joinAt}
 use Rattle.turn_paths.specs.Paths.{Feeder}
 use Rattle.turn_memory.specs.Words.{Words, setPlace, abovePlace, linkPlace, wordCount}

@@ -3,23 +3,22 @@
 ghost use mathlib.Core.Path.{_≡_};
 ghost use Prim.Native.Nat.{ℕ, _+_, _≤_, _<_};
 ghost use lib.ListN.{length};
-ghost use Rattle.policy.specs.Records.{nodeSize, nodeCount, stepCount, nodeAt};
-ghost use Rattle.policy.specs.Tree.{owned, regulated, treeAt};
-ghost use Rattle.rules.specs.Passed.{Passed};
-ghost use Rattle.reading.specs.Kinds.{wayOf};
+ghost use Rattle.spec_policy.specs.Records.{nodeSize, nodeCount, stepCount, nodeAt, mostNodes, nodePlace};
+ghost use Rattle.spec_policy.specs.Tree.{owned, regulated, treeAt};
+ghost use Rattle.spec_check.specs.Passed.{Passed};
+ghost use Rattle.file_records.specs.Kinds.{wayOf};
 ghost use Rattle.turn_sides.specs.Sides.{kindAt};
 ghost use Rattle.turn_memory.specs.Words.{wordCount};
 ghost use Rattle.turn_tables.specs.Tables.{setAt, aboveAt, feederAt, firstAt, Tabled, Kept};
 ghost use Rattle.turn_tables.specs.Entries.{wayUp, sidesUp, entered, Begun};
 use actions::ActionSet;
-use reading::Kind;
-use reading::Way;
-use reading::node_count;
-use reading::node_kind;
-use reading::node_left;
-use reading::node_place;
-use reading::node_right;
-use reading::node_set;
+use file_records::Kind;
+use file_records::Way;
+use file_view::view_count;
+use file_view::view_kind;
+use file_view::view_left;
+use file_view::view_right;
+use file_view::view_set;
 use turn_sides::left_of;
 use turn_sides::right_of;
 
@@ -42,7 +41,7 @@ const FIRSTS: u64 = 65536;
 
 // The actions that the node regulates.
 pub fn set_of(mem: &[u64; 157], node: usize) -> ActionSet
-    requires { ⌜ node < 31 ⌝ }
+    requires { ⌜ node < mostNodes ⌝ }
     ensures { λ r. ⌜ r .bits ≡ setAt (now (mem .entry)) node ⌝ }
 {
     ActionSet {
@@ -52,7 +51,7 @@ pub fn set_of(mem: &[u64; 157], node: usize) -> ActionSet
 
 // The actions that a right side may be asked about on the way up of the node's inserts.
 pub fn above_of(mem: &[u64; 157], node: usize) -> ActionSet
-    requires { ⌜ node < 31 ⌝ }
+    requires { ⌜ node < mostNodes ⌝ }
     ensures { λ r. ⌜ r .bits ≡ aboveAt (now (mem .entry)) node ⌝ }
 {
     ActionSet {
@@ -62,7 +61,7 @@ pub fn above_of(mem: &[u64; 157], node: usize) -> ActionSet
 
 // The nearest sequential node above on whose left side the node lies, or NONE.
 pub fn feeder_of(mem: &[u64; 157], node: usize) -> usize
-    requires { ⌜ node < 31 ⌝ }
+    requires { ⌜ node < mostNodes ⌝ }
     ensures { λ r. ⌜ r ≡ feederAt (now (mem .entry)) node ⌝ }
 {
     (mem[LINKS + node] % FEEDERS) as usize
@@ -70,7 +69,7 @@ pub fn feeder_of(mem: &[u64; 157], node: usize) -> usize
 
 // The number of the node's first step, where it is a leaf.
 pub fn first_of(mem: &[u64; 157], node: usize) -> usize
-    requires { ⌜ node < 31 ⌝ }
+    requires { ⌜ node < mostNodes ⌝ }
     ensures { λ r. ⌜ r ≡ firstAt (now (mem .entry)) node ⌝ }
 {
     (mem[LINKS + node] / FEEDERS % FIRSTS) as usize
@@ -80,7 +79,7 @@ pub fn first_of(mem: &[u64; 157], node: usize) -> usize
 
 // Enters a node's way up, and beside it the number of its first step, which is in the same word.
 fn link(mem: &mut [u64; 157], node: usize, first: usize, above: ActionSet, feeder: usize)
-    requires { ⌜ (node < 31) × ((first < 65536) × (feeder < 256)) ⌝ }
+    requires { ⌜ (node < mostNodes) × ((first < 65536) × (feeder < 256)) ⌝ }
     ensures { λ _. ⌜ now (mem .exit) ≡ wayUp (now (mem .entry)) node first (above .bits) feeder ⌝ }
 {
     mem[ABOVE + node] = above.bits;
@@ -89,13 +88,14 @@ fn link(mem: &mut [u64; 157], node: usize, first: usize, above: ActionSet, feede
 
 // ---- the first pass: regulated sets and first steps
 
-fn owned(policy: &[u8], at: usize) -> u8
-    requires { ⌜ at + nodeSize ≤ length (now policy) ⌝ }
-    ensures { λ r. ⌜ r ≡ owned (nodeAt (now (policy .entry)) at) ⌝ }
+// How many steps the node has.
+fn owned(policy: &[u8], node: usize) -> u8
+    requires { ⌜ (node ≤ 255) × (nodePlace node + nodeSize ≤ length (now policy)) ⌝ }
+    ensures { λ r. ⌜ r ≡ owned (nodeAt (now (policy .entry)) (nodePlace node)) ⌝ }
 {
-    let kind = node_kind(policy, at);
+    let kind = view_kind(policy, node);
     match kind {
-        Kind::Leaf => node_count(policy, at),
+        Kind::Leaf => view_count(policy, node),
         Kind::Trivial => 0,
         Kind::Unsatisfiable => 0,
         Kind::Pair(_, _) => 0,
@@ -109,15 +109,14 @@ fn regulated(policy: &[u8], node: usize, mem: &[u64; 157]) -> ActionSet
     requires { ⌜ ((k : ℕ) → node < k → k < nodeCount (now policy) → setAt (now mem) k ≡ regulated (treeAt (now policy) k)) ⌝ }
     ensures { λ r. ⌜ r .bits ≡ regulated (treeAt (now (policy .entry)) node) ⌝ }
 {
-    let at = node_place(node);
-    let kind = node_kind(policy, at);
+    let kind = view_kind(policy, node);
     match kind {
-        Kind::Leaf => node_set(policy, at),
+        Kind::Leaf => view_set(policy, node),
         Kind::Trivial => ActionSet::EMPTY,
         Kind::Unsatisfiable => ActionSet::EMPTY,
         Kind::Pair(_, _) => {
-            let left = set_of(mem, node_left(policy, at) as usize);
-            let right = set_of(mem, node_right(policy, at) as usize);
+            let left = set_of(mem, view_left(policy, node) as usize);
+            let right = set_of(mem, view_right(policy, node) as usize);
             left.union(right)
         }
         Kind::Unknown => ActionSet::EMPTY,
@@ -135,7 +134,7 @@ fn enter_sets(policy: &[u8], n: usize, m: usize, mem: &mut [u64; 157])
     while i > 0 {
         i -= 1;
         let set = regulated(policy, i, mem);
-        first -= owned(policy, node_place(i)) as usize;
+        first -= owned(policy, i) as usize;
         mem[SETS + i] = set.bits;
         link(mem, i, first, ActionSet::EMPTY, NONE);
     }
@@ -145,7 +144,7 @@ fn enter_sets(policy: &[u8], n: usize, m: usize, mem: &mut [u64; 157])
 
 // Enters the way up of a node's sides: the node's own, but that a sequential node takes its left side's inserts itself.
 fn link_sides(mem: &mut [u64; 157], node: usize, way: Way, left: usize, right: usize)
-    requires { ⌜ (node < 31) × ((left < 31) × (right < 31)) ⌝ }
+    requires { ⌜ (node < mostNodes) × ((left < mostNodes) × (right < mostNodes)) ⌝ }
     ensures { λ _. ⌜ now (mem .exit) ≡ sidesUp (wayOf way) (now (mem .entry)) node left right ⌝ }
 {
     let above = above_of(mem, node);
@@ -163,7 +162,7 @@ fn link_node(policy: &[u8], node: usize, mem: &mut [u64; 157])
     requires { ⌜ Passed (now policy) × (node < nodeCount (now policy)) ⌝ }
     ensures { λ _. ⌜ now (mem .exit) ≡ entered (kindAt (now (policy .entry)) node) (now (policy .entry)) node (now (mem .entry)) ⌝ }
 {
-    let kind = node_kind(policy, node_place(node));
+    let kind = view_kind(policy, node);
     match kind {
         Kind::Leaf => {}
         Kind::Trivial => {}

@@ -7,10 +7,10 @@ use mathlib.Core.List.{List, [], _∷_, _++_, map}
 use lib.ListN.{length, getD, set, take, drop, length-set, length-drop, length-map}
 use lib.Seq.{sets, take-suc, take-all, drop-cons, drop-length, length-take-le, set-comm, getD-set-same, getD-set-other}
 use Rattle.actions.specs.Sets.{Action}
-use Rattle.policy.specs.Bytes.{Bytes, number, put}
-use Rattle.policy.proofs.ByteLaws.{put-sets, put-none}
-use Rattle.turns.specs.Events.{inserted, eventBytes}
-use Rattle.conduct.proofs.Bounds.{two-each}
+use Rattle.spec_policy.specs.Bytes.{Bytes, number, put}
+use Rattle.spec_policy.proofs.ByteLaws.{put-sets, put-none}
+use Rattle.spec_turns.specs.Events.{inserted, eventBytes}
+use Rattle.laws_turns.proofs.Bounds.{two-each}
 use Rattle.turn_paths.proofs.Frames.{same-or-not}
 use Rattle.turn_memory.specs.Words.{Words, countPlace, toldPlace, wordCount}
 use Rattle.turn_memory.specs.Told.{Eights, Tells}

@@ -4,8 +4,8 @@ use mathlib.Core.Path.{_≡_}
 use mathlib.Core.List.{List, [], map}
 use lib.ListN.{length, getD}
 use Rattle.actions.specs.Sets.{Action}
-use Rattle.policy.specs.Bytes.{Bytes, put}
-use Rattle.turns.specs.Events.{inserted, eventBytes}
+use Rattle.spec_policy.specs.Bytes.{Bytes, put}
+use Rattle.spec_turns.specs.Events.{inserted, eventBytes}
 use Rattle.turn_memory.specs.Words.{Words, countPlace, setPlace}
 use Rattle.turn_memory.specs.Told.{Tells}
 

@@ -15,6 +15,9 @@ const TOLD: usize = 32;
 
 const BYTES: u64 = 256;
 
+// The least room for events that a call takes: refusal 11.
+pub const EVENT_ROOM: usize = 512;
+
 // What an event of an insert begins with.
 const INSERTED: u8 = 3;
 

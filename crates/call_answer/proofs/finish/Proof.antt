@@ -5,7 +5,7 @@ use Rattle.call_answer.proofs.finish.Statement.{statement}
 use Rattle.call_answer.proofs.finish.Tie as tie
 
 returns : tie.Need-returns
-returns c = let st = c .before .before .before .before .before .before .before .before .before in ended (st .pre .0 .0) (st .args .count) (c .before .before .before .before .tidy .ensures .0) (c .byte .ensures)
+returns c = let st = c .before .before .before .before .before .before .before .before .before in ended (st .pre .0 .0) (st .args .count) (c .before .before .before .before .tidy .ensures .0) (c .saved-status .ensures)
 
 pub finish-spec : {M : Type 1} → statement M
 finish-spec = tie.close (tie.spec (λ c κs. search needs) (λ c κs. search needs) (λ c. search needs) returns)

@@ -2,8 +2,8 @@
 use mathlib.Core.Path.{sym, ap, _∙_}
 use Prim.Native.Nat.{ℕ}
 use borrow.Author.Needs.{needs}
-use Rattle.turns.specs.Status.{statusOf, isHalted}
-use Rattle.turns.proofs.StatusLaws.{not-halted}
+use Rattle.spec_turns.specs.Status.{statusOf, isHalted}
+use Rattle.spec_turns.proofs.StatusLaws.{not-halted}
 use Rattle.turn_memory.specs.Words.{celled, view}
 use Rattle.call_answer.proofs.EndLaws.{no-verdict, one-verdict}
 use Rattle.call_answer.proofs.judge.Statement.{statement}

@@ -1,8 +1,8 @@
 -- `verdict` meets its contract. Assumes nothing.
 use mathlib.Core.Path.{ap}
 use mathlib.Core.Bool.{Bool}
-use Rattle.turns.specs.Turn as spec
-use Rattle.turns.specs.Events.{eventOf, eventBytes}
+use Rattle.spec_turns.specs.Turn as spec
+use Rattle.spec_turns.specs.Events.{eventOf, eventBytes}
 use Rattle.call_answer.proofs.verdict.Statement.{statement}
 use Rattle.call_answer.proofs.verdict.Tie as tie
 

@@ -12,7 +12,7 @@ carry-out-requires : tie.Need-carry-out-requires
 unfolding asksRoot
 carry-out-requires c κs =
     let st = c .before .before .before .before .before .before .before .before .before .before in
-    let e = sym (asks-root (st .args .policy .now) (st .args .state .now) (st .args .action) (c .before .before .before .before .before .byte .ensures) (c .before .before .before .before .is-running .ensures) (c .before .before .before .has .ensures) (st .pre .1)) ∙ c .before .before .if1 .taken in
+    let e = sym (asks-root (st .args .policy .now) (st .args .state .now) (st .args .action) (c .before .before .before .before .before .saved-status .ensures) (c .before .before .before .before .is-running .ensures) (c .before .before .before .has .ensures) (st .pre .1)) ∙ c .before .before .if1 .taken in
     record { allowed = st .pre .0; asks = of-yes _ e }
 
 returns : tie.Need-returns
@@ -25,8 +25,8 @@ returns-2 c =
     let st = c .before .before .before .before .before .before .before .before .before .before .before .before in
     let h = st .pre .0 in
     stayed (st .args .policy .now) (st .args .state .now) (st .args .events .now) (h .passed) (h .state-size) (λ i. c .before .before .before .before .before .before .before .before .before .before .slice-known .given i .fits) (h .reads) (st .args .action)
-    (sym (asks-root (st .args .policy .now) (st .args .state .now) (st .args .action) (c .before .before .before .before .before .before .before .byte .ensures) (c .before .before .before .before .before .before .is-running .ensures) (c .before .before .before .before .before .has .ensures) (st .pre .1)) ∙ c .before .before .before .before .if1 .left)
-    (c .before .before .before .before .before .before .before .byte .ensures) (c .before .before .say .ensures)
+    (sym (asks-root (st .args .policy .now) (st .args .state .now) (st .args .action) (c .before .before .before .before .before .before .before .saved-status .ensures) (c .before .before .before .before .before .before .is-running .ensures) (c .before .before .before .before .before .has .ensures) (st .pre .1)) ∙ c .before .before .before .before .if1 .left)
+    (c .before .before .before .before .before .before .before .saved-status .ensures) (c .before .before .say .ensures)
 
 pub carry-action-spec : {M : Type 1} → statement M
 carry-action-spec = tie.close (tie.spec (λ c κs. search needs) (λ c κs. search needs) (λ c κs. search needs) carry-out-requires (λ c. search needs) (λ c. search needs) returns (λ c κs. search needs) (λ c. search needs) (λ c. search needs) returns-2)

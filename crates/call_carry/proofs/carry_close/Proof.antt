@@ -2,7 +2,7 @@
 use mathlib.Core.Path.{refl}
 use borrow.Author.Needs.{needs}
 use Rattle.actions.proofs.Tests.{of-yes, not-false}
-use Rattle.turns.specs.Turn as spec
+use Rattle.spec_turns.specs.Turn as spec
 use Rattle.turn_memory.specs.Phases.{phaseOf}
 use Rattle.turn_rest.proofs.HeldLoad.{held-load}
 use Rattle.call_carry.specs.Calls.{readable}
@@ -16,7 +16,7 @@ returns c =
     let st = c .before .before .before .before .before .before .before in
     let h = st .pre .1 .allowed in
     closed (st .args .policy .now) (st .args .state .now) (st .args .events .now) (h .passed) (h .state-size) (λ i. c .before .before .before .before .before .slice-known .given i .fits) (h .reads)
-    (c .before .before .byte .ensures) (c .before .is-running .ensures) (not-false _ (of-yes _ (c .if1 .taken)))
+    (c .before .before .saved-status .ensures) (c .before .is-running .ensures) (not-false _ (of-yes _ (c .if1 .taken)))
 
 wake-requires : tie.Need-wake-requires
 wake-requires c κs = let h = c .before .before .before .before .before .before .before .before .before .pre in (h .1 .allowed .state-size, (refl, few-nodes (h .1 .allowed .passed) (h .0)))

@@ -1,7 +1,7 @@
 -- `carry_offer` meets its contract: the root's turn, from the saved state, and the end of the call. Assumes nothing.
 use mathlib.Core.Path.{refl, _∙_}
 use borrow.Author.Needs.{needs}
-use Rattle.turns.specs.Turn as spec
+use Rattle.spec_turns.specs.Turn as spec
 use Rattle.turn_rest.proofs.HeldLoad.{held-load}
 use Rattle.call_carry.specs.Calls.{readable}
 use Rattle.call_carry.proofs.CallLaws.{few-nodes, none-told, ready, held-prepared, gave, carried-out, offer-asked}

@@ -1,10 +1,10 @@
 -- `end_step` meets its contract. Assumes nothing.
 use mathlib.Core.Path.{refl, _∙_}
 use borrow.Author.Needs.{needs}
-use Rattle.policy.specs.Steps.{end, isNext, isIns}
-use Rattle.rules.specs.Possible.{passOn, branchesTaken}
-use Rattle.rules.specs.Interference.{stepEffects}
-use Rattle.targets.proofs.TargetLaws.{tested, tested-all}
+use Rattle.spec_policy.specs.Steps.{end, isNext, isIns}
+use Rattle.spec_check.specs.Possible.{passOn, branchesTaken}
+use Rattle.spec_check.specs.Interference.{stepEffects}
+use Rattle.check_targets.proofs.TargetLaws.{tested, tested-all}
 use Rattle.check_steps.proofs.StepLaws.{plain-went}
 use Rattle.check_steps.proofs.end_step.Statement.{statement}
 use Rattle.check_steps.proofs.end_step.Tie as tie

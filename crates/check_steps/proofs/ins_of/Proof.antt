@@ -1,8 +1,8 @@
 -- `ins_of` meets its contract: by the operand. Assumes nothing.
 use mathlib.Core.Path.{ap}
 use borrow.Author.Needs.{needs}
-use Rattle.reading.specs.Kinds.{insOf}
-use Rattle.reading.specs.declared.Operand.{Operand}
+use Rattle.file_records.specs.Kinds.{insOf}
+use Rattle.file_records.specs.declared.Operand.{Operand}
 use Rattle.check_steps.proofs.StepLaws.{of-meant}
 use Rattle.check_steps.proofs.ins_of.Statement.{statement}
 use Rattle.check_steps.proofs.ins_of.Tie as tie

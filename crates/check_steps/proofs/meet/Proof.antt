@@ -2,7 +2,7 @@
 use mathlib.Core.Path.{refl, ap}
 use borrow.Author.Needs.{needs}
 use Rattle.actions.specs.Sets.{EMPTY}
-use Rattle.reading.specs.Kinds.{stepMeant}
+use Rattle.file_records.specs.Kinds.{stepMeant}
 use Rattle.check_steps.proofs.StepLaws.{of-meant}
 use Rattle.check_steps.proofs.meet.Statement.{statement}
 use Rattle.check_steps.proofs.meet.Tie as tie

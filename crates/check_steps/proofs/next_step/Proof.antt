@@ -7,12 +7,12 @@ use borrow.Author.Tests.{not-true, not-false}
 use Rattle.actions.specs.Sets.{EMPTY, union}
 use Rattle.actions.proofs.Tests.{and-true}
 use Rattle.actions.proofs.SetLaws.{union-end}
-use Rattle.policy.specs.Lists.{one}
-use Rattle.policy.specs.Steps.{next, isNext, isIns}
-use Rattle.rules.specs.Targets.{targetFits}
-use Rattle.rules.specs.Possible.{passOn, branchesTaken}
-use Rattle.rules.specs.Interference.{stepEffects}
-use Rattle.targets.proofs.TargetLaws.{tested, tested-all}
+use Rattle.spec_policy.specs.Lists.{one}
+use Rattle.spec_policy.specs.Steps.{next, isNext, isIns}
+use Rattle.spec_check.specs.Targets.{targetFits}
+use Rattle.spec_check.specs.Possible.{passOn, branchesTaken}
+use Rattle.spec_check.specs.Interference.{stepEffects}
+use Rattle.check_targets.proofs.TargetLaws.{tested, tested-all}
 use Rattle.check_steps.proofs.StepLaws.{stray-met, next-past, next-has, off-left, off-right}
 use Rattle.check_steps.proofs.next_step.Statement.{statement}
 use Rattle.check_steps.proofs.next_step.Tie as tie

@@ -3,10 +3,10 @@ use native.Mathlib.Omega.{arith}
 use mathlib.Core.Path.{refl, sym, _∙_}
 use borrow.Author.Needs.{needs}
 use borrow.Author.Tests.{not-true, not-false}
-use Rattle.policy.specs.Steps.{ok, isNext, isIns}
-use Rattle.rules.specs.Possible.{passOn, branchesTaken}
-use Rattle.rules.specs.Interference.{stepEffects}
-use Rattle.targets.proofs.TargetLaws.{tested, tested-all}
+use Rattle.spec_policy.specs.Steps.{ok, isNext, isIns}
+use Rattle.spec_check.specs.Possible.{passOn, branchesTaken}
+use Rattle.spec_check.specs.Interference.{stepEffects}
+use Rattle.check_targets.proofs.TargetLaws.{tested, tested-all}
 use Rattle.check_steps.proofs.StepLaws.{stray-met, nexts-past, plain-went}
 use Rattle.check_steps.proofs.ok_step.Statement.{statement}
 use Rattle.check_steps.proofs.ok_step.Tie as tie

@@ -5,12 +5,12 @@ use mathlib.Core.Bool.{Bool, _&&_}
 use borrow.Author.Needs.{needs}
 use borrow.Author.Tests.{not-true, not-false}
 use Rattle.actions.specs.Sets.{EMPTY}
-use Rattle.policy.specs.Steps.{spend, isNext, isIns}
-use Rattle.rules.specs.Targets.{targetFits}
-use Rattle.rules.specs.Possible.{passOn, branchesTaken}
-use Rattle.rules.specs.Interference.{stepEffects}
-use Rattle.possible.proofs.PossibleLaws.{two-joins}
-use Rattle.targets.proofs.TargetLaws.{tested, tested-all}
+use Rattle.spec_policy.specs.Steps.{spend, isNext, isIns}
+use Rattle.spec_check.specs.Targets.{targetFits}
+use Rattle.spec_check.specs.Possible.{passOn, branchesTaken}
+use Rattle.spec_check.specs.Interference.{stepEffects}
+use Rattle.check_possible.proofs.PossibleLaws.{two-joins}
+use Rattle.check_targets.proofs.TargetLaws.{tested, tested-all}
 use Rattle.check_steps.proofs.StepLaws.{stray-met, nexts-past, plain-went, off-left, off-right, length-joined}
 use Rattle.check_steps.proofs.spend_step.Statement.{statement}
 use Rattle.check_steps.proofs.spend_step.Tie as tie

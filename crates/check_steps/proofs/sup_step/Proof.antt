@@ -5,11 +5,11 @@ use borrow.Author.Needs.{needs}
 use borrow.Author.Tests.{not-true, not-false}
 use Rattle.actions.specs.Sets.{union}
 use Rattle.actions.proofs.Tests.{and-true}
-use Rattle.policy.specs.Lists.{one}
-use Rattle.policy.specs.Steps.{sup, isNext, isIns}
-use Rattle.rules.specs.Possible.{passOn, branchesTaken}
-use Rattle.rules.specs.Interference.{stepEffects}
-use Rattle.targets.proofs.TargetLaws.{tested, tested-all}
+use Rattle.spec_policy.specs.Lists.{one}
+use Rattle.spec_policy.specs.Steps.{sup, isNext, isIns}
+use Rattle.spec_check.specs.Possible.{passOn, branchesTaken}
+use Rattle.spec_check.specs.Interference.{stepEffects}
+use Rattle.check_targets.proofs.TargetLaws.{tested, tested-all}
 use Rattle.check_steps.proofs.StepLaws.{stray-met, nexts-past, went-by}
 use Rattle.check_steps.proofs.sup_step.Statement.{statement}
 use Rattle.check_steps.proofs.sup_step.Tie as tie

@@ -1,6 +1,6 @@
 -- `fretmere_check` meets its contract. Assumes nothing.
 use mathlib.Core.Path.{_∙_, sym, ap}
-use Rattle.checking.specs.Answers.{answered}
+use Rattle.check_policy.specs.Answers.{answered}
 use Rattle.fretmere.proofs.WordLaws.{passed-says, refused-says}
 use borrow.Author.Needs.{needs}
 use Rattle.fretmere.proofs.fretmere_check.Statement.{statement}

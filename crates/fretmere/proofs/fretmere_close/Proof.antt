@@ -1,7 +1,7 @@
 -- `fretmere_close` meets its contract. Assumes nothing.
 use borrow.Author.Needs.{needs}
-use Rattle.turns.specs.Turn.{close}
-use Rattle.turns.specs.Entries.{closes}
+use Rattle.spec_turns.specs.Turn.{close}
+use Rattle.spec_turns.specs.Entries.{closes}
 use Rattle.fretmere.proofs.WordLaws.{few-answer}
 use Rattle.fretmere.proofs.fretmere_close.Statement.{statement}
 use Rattle.fretmere.proofs.fretmere_close.Tie as tie

@@ -1,7 +1,7 @@
 -- `fretmere_offer` meets its contract. Assumes nothing.
 use borrow.Author.Needs.{needs}
-use Rattle.turns.specs.Turn.{offer}
-use Rattle.turns.specs.Entries.{offers}
+use Rattle.spec_turns.specs.Turn.{offer}
+use Rattle.spec_turns.specs.Entries.{offers}
 use Rattle.fretmere.proofs.WordLaws.{few-answer}
 use Rattle.fretmere.proofs.fretmere_offer.Statement.{statement}
 use Rattle.fretmere.proofs.fretmere_offer.Tie as tie

@@ -1,7 +1,7 @@
 -- `fretmere_open` meets its contract. Assumes nothing.
 use borrow.Author.Needs.{needs}
-use Rattle.turns.specs.Turn.{opening}
-use Rattle.turns.specs.Entries.{opens}
+use Rattle.spec_turns.specs.Turn.{opening}
+use Rattle.spec_turns.specs.Entries.{opens}
 use Rattle.fretmere.proofs.WordLaws.{few-answer}
 use Rattle.fretmere.proofs.fretmere_open.Statement.{statement}
 use Rattle.fretmere.proofs.fretmere_open.Tie as tie

@@ -1,10 +1,10 @@
 -- `close` meets its contract: the check's refusal, refusal 11 or 12, or the call carried out. Assumes nothing.
 use mathlib.Core.Path.{sym, _∙_}
 use borrow.Author.Needs.{needs}
-use Rattle.rules.proofs.Passed.{passed}
-use Rattle.checking.proofs.Answers.{check-passes, check-refuses, number-refuses}
-use Rattle.turns.specs.Turn as spec
-use Rattle.turns.specs.Entries.{refusals, closes}
+use Rattle.spec_check.proofs.Passed.{passed}
+use Rattle.check_policy.proofs.Answers.{check-passes, check-refuses, number-refuses}
+use Rattle.spec_turns.specs.Turn as spec
+use Rattle.spec_turns.specs.Entries.{refusals, closes}
 use Rattle.call_answer.specs.declared.Call.the-variants.{Close}
 use Rattle.call_answer.specs.Requests.{asked}
 use Rattle.call_carry.specs.Calls.{readable, asksRoot}
@@ -24,13 +24,13 @@ unfolding closes refusals
 returns-2 c =
     let a = c .before .before .before .before .before .before .before .before .before .before .args in
     let l = all-left (a .policy .now) spec.close (a .state .now) (a .events .now) (check-passes (a .policy .now) (c .before .before .before .before .before .before .check .ensures) (c .before .before .before .before .enum-told .given .1)) in
-    refused-here l (sym (c .before .short .ensures) ∙ c .if1 .taken)
+    refused-here l (sym (c .before .broken11 .ensures) ∙ c .if1 .taken)
 
-unfit-requires : tie.Need-unfit-requires
-unfit-requires c κs =
+broken12-requires : tie.Need-broken12-requires
+broken12-requires c κs =
     let a = c .before .before .before .before .before .before .before .before .before .before .before .args in (
       passed (a .policy .now) _ _ (check-passes (a .policy .now) (c .before .before .before .before .before .before .before .check .ensures) (c .before .before .before .before .before .enum-told .given .1)),
-      room-enough (a .state .now) (a .events .now) (sym (c .before .before .short .ensures) ∙ c .before .if1 .left) .0,
+      room-enough (a .state .now) (a .events .now) (sym (c .before .before .broken11 .ensures) ∙ c .before .if1 .left) .0,
     )
 
 returns-3 : tie.Need-returns-3
@@ -38,8 +38,8 @@ unfolding closes refusals
 returns-3 c =
     let a = c .before .before .before .before .before .before .before .before .before .before .before .before .before .args in
     let l = all-left (a .policy .now) spec.close (a .state .now) (a .events .now) (check-passes (a .policy .now) (c .before .before .before .before .before .before .before .before .before .check .ensures) (c .before .before .before .before .before .before .before .enum-told .given .1)) in
-    let l₁ = next-left l (sym (c .before .before .before .before .short .ensures) ∙ c .before .before .before .if1 .left) in
-    refused-here l₁ (sym (c .before .unfit .ensures) ∙ c .if2 .taken)
+    let l₁ = next-left l (sym (c .before .before .before .before .broken11 .ensures) ∙ c .before .before .before .if1 .left) in
+    refused-here l₁ (sym (c .before .broken12 .ensures) ∙ c .if2 .taken)
 
 carry-out-requires : tie.Need-carry-out-requires
 unfolding readable asksRoot
@@ -48,8 +48,8 @@ carry-out-requires c κs =
     record {
       allowed = allowed (a .policy .now) (a .state .now) (a .events .now) Close
           (check-passes (a .policy .now) (c .before .before .before .before .before .before .before .before .before .before .before .check .ensures) (c .before .before .before .before .before .before .before .before .before .enum-told .given .1))
-          (sym (c .before .before .before .before .before .before .short .ensures) ∙ c .before .before .before .before .before .if1 .left)
-          (state-fits (a .policy .now) (a .state .now) (sym (c .before .before .before .unfit .ensures) ∙ c .before .before .if2 .left));
+          (sym (c .before .before .before .before .before .before .broken11 .ensures) ∙ c .before .before .before .before .before .if1 .left)
+          (state-fits (a .policy .now) (a .state .now) (sym (c .before .before .before .broken12 .ensures) ∙ c .before .before .if2 .left));
       asks = tt;
     }
 
@@ -58,8 +58,8 @@ unfolding closes refusals asked
 returns-4 c =
     let a = c .before .before .before .before .before .before .before .before .before .before .before .before .before .before .before .before .before .before .before .before .args in
     let l = all-left (a .policy .now) spec.close (a .state .now) (a .events .now) (check-passes (a .policy .now) (c .before .before .before .before .before .before .before .before .before .before .before .before .before .before .before .before .check .ensures) (c .before .before .before .before .before .before .before .before .before .before .before .before .before .before .enum-told .given .1)) in
-    let l₁ = next-left l (sym (c .before .before .before .before .before .before .before .before .before .before .before .short .ensures) ∙ c .before .before .before .before .before .before .before .before .before .before .if1 .left) in
-    let l₂ = next-left l₁ (sym (c .before .before .before .before .before .before .before .before .unfit .ensures) ∙ c .before .before .before .before .before .before .before .if2 .left) in
+    let l₁ = next-left l (sym (c .before .before .before .before .before .before .before .before .before .before .before .broken11 .ensures) ∙ c .before .before .before .before .before .before .before .before .before .before .if1 .left) in
+    let l₂ = next-left l₁ (sym (c .before .before .before .before .before .before .before .before .broken12 .ensures) ∙ c .before .before .before .before .before .before .before .if2 .left) in
     none-left l₂ (c .before .before .before .before .carry-out .ensures)
 
 pub close-spec : {M : Type 1} → statement M
@@ -75,7 +75,7 @@ close-spec =
     (λ c. search needs)
     (λ c. search needs)
     returns-2
-    unfit-requires
+    broken12-requires
     (λ c. search needs)
     (λ c. search needs)
     returns-3

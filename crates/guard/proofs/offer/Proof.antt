@@ -2,10 +2,10 @@
 use native.Mathlib.Omega.{arith}
 use mathlib.Core.Path.{sym, _∙_}
 use borrow.Author.Needs.{needs}
-use Rattle.rules.proofs.Passed.{passed, passed-sets}
-use Rattle.checking.proofs.Answers.{check-passes, check-refuses, number-refuses}
-use Rattle.turns.specs.Turn as spec
-use Rattle.turns.specs.Entries.{refusals, offers}
+use Rattle.spec_check.proofs.Passed.{passed, passed-sets}
+use Rattle.check_policy.proofs.Answers.{check-passes, check-refuses, number-refuses}
+use Rattle.spec_turns.specs.Turn as spec
+use Rattle.spec_turns.specs.Entries.{refusals, offers}
 use Rattle.call_answer.specs.declared.Call.the-variants.{Offer}
 use Rattle.call_carry.specs.Calls.{readable}
 use Rattle.guard.proofs.EntryLaws.{allowed, room-enough, state-fits, no-action, an-action}
@@ -25,13 +25,13 @@ unfolding offers refusals
 returns-2 c =
     let a = c .before .before .before .before .before .before .before .before .before .before .before .args in
     let l = all-left (a .policy .now) (spec.offer (a .action)) (a .state .now) (a .events .now) (check-passes (a .policy .now) (c .before .before .before .before .before .before .before .check .ensures) (c .before .before .before .before .before .checked .given .1)) in
-    refused-here l (sym (c .before .short .ensures) ∙ c .if1 .taken)
+    refused-here l (sym (c .before .broken11 .ensures) ∙ c .if1 .taken)
 
-unfit-requires : tie.Need-unfit-requires
-unfit-requires c κs =
+broken12-requires : tie.Need-broken12-requires
+broken12-requires c κs =
     let a = c .before .before .before .before .before .before .before .before .before .before .before .before .args in (
       passed (a .policy .now) _ _ (check-passes (a .policy .now) (c .before .before .before .before .before .before .before .before .check .ensures) (c .before .before .before .before .before .before .checked .given .1)),
-      room-enough (a .state .now) (a .events .now) (sym (c .before .before .short .ensures) ∙ c .before .if1 .left) .0,
+      room-enough (a .state .now) (a .events .now) (sym (c .before .before .broken11 .ensures) ∙ c .before .if1 .left) .0,
     )
 
 returns-3 : tie.Need-returns-3
@@ -39,19 +39,19 @@ unfolding offers refusals
 returns-3 c =
     let a = c .before .before .before .before .before .before .before .before .before .before .before .before .before .before .args in
     let l = all-left (a .policy .now) (spec.offer (a .action)) (a .state .now) (a .events .now) (check-passes (a .policy .now) (c .before .before .before .before .before .before .before .before .before .before .check .ensures) (c .before .before .before .before .before .before .before .before .checked .given .1)) in
-    let l₁ = next-left l (sym (c .before .before .before .before .short .ensures) ∙ c .before .before .before .if1 .left) in
-    refused-here l₁ (sym (c .before .unfit .ensures) ∙ c .if2 .taken)
+    let l₁ = next-left l (sym (c .before .before .before .before .broken11 .ensures) ∙ c .before .before .before .if1 .left) in
+    refused-here l₁ (sym (c .before .broken12 .ensures) ∙ c .if2 .taken)
 
-halted-requires : tie.Need-halted-requires
-halted-requires c κs = let a = c .before .before .before .before .before .before .before .before .before .before .before .before .before .before .before .args in room-enough (a .state .now) (a .events .now) (sym (c .before .before .before .before .before .short .ensures) ∙ c .before .before .before .before .if1 .left) .0
+broken14-requires : tie.Need-broken14-requires
+broken14-requires c κs = let a = c .before .before .before .before .before .before .before .before .before .before .before .before .before .before .before .args in room-enough (a .state .now) (a .events .now) (sym (c .before .before .before .before .before .broken11 .ensures) ∙ c .before .before .before .before .if1 .left) .0
 
 returns-4 : tie.Need-returns-4
 unfolding offers refusals
 returns-4 c =
     let a = c .before .before .before .before .before .before .before .before .before .before .before .before .before .before .before .before .before .args in
     let l = all-left (a .policy .now) (spec.offer (a .action)) (a .state .now) (a .events .now) (check-passes (a .policy .now) (c .before .before .before .before .before .before .before .before .before .before .before .before .before .check .ensures) (c .before .before .before .before .before .before .before .before .before .before .before .checked .given .1)) in
-    let l₁ = next-left l (sym (c .before .before .before .before .before .before .before .short .ensures) ∙ c .before .before .before .before .before .before .if1 .left) in
-    let l₂ = next-left l₁ (sym (c .before .before .before .before .unfit .ensures) ∙ c .before .before .before .if2 .left) in
+    let l₁ = next-left l (sym (c .before .before .before .before .before .before .before .broken11 .ensures) ∙ c .before .before .before .before .before .before .if1 .left) in
+    let l₂ = next-left l₁ (sym (c .before .before .before .before .broken12 .ensures) ∙ c .before .before .before .if2 .left) in
     refused-here l₂ (no-action (a .action) (omega arith))
 
 returns-5 : tie.Need-returns-5
@@ -59,10 +59,10 @@ unfolding offers refusals
 returns-5 c =
     let a = c .before .before .before .before .before .before .before .before .before .before .before .before .before .before .before .before .before .before .args in
     let l = all-left (a .policy .now) (spec.offer (a .action)) (a .state .now) (a .events .now) (check-passes (a .policy .now) (c .before .before .before .before .before .before .before .before .before .before .before .before .before .before .check .ensures) (c .before .before .before .before .before .before .before .before .before .before .before .before .checked .given .1)) in
-    let l₁ = next-left l (sym (c .before .before .before .before .before .before .before .before .short .ensures) ∙ c .before .before .before .before .before .before .before .if1 .left) in
-    let l₂ = next-left l₁ (sym (c .before .before .before .before .before .unfit .ensures) ∙ c .before .before .before .before .if2 .left) in
+    let l₁ = next-left l (sym (c .before .before .before .before .before .before .before .before .broken11 .ensures) ∙ c .before .before .before .before .before .before .before .if1 .left) in
+    let l₂ = next-left l₁ (sym (c .before .before .before .before .before .broken12 .ensures) ∙ c .before .before .before .before .if2 .left) in
     let l₃ = next-left l₂ (an-action (a .action) (omega arith)) in
-    refused-here l₃ (sym (c .before .before .halted .ensures) ∙ c .if4 .taken)
+    refused-here l₃ (sym (c .before .before .broken14 .ensures) ∙ c .if4 .taken)
 
 carry-action-requires : tie.Need-carry-action-requires
 unfolding readable
@@ -71,8 +71,8 @@ carry-action-requires c κs =
     let e = check-passes (a .policy .now) (c .before .before .before .before .before .before .before .before .before .before .before .before .before .before .before .before .check .ensures) (c .before .before .before .before .before .before .before .before .before .before .before .before .before .before .checked .given .1) in (
       allowed (a .policy .now) (a .state .now) (a .events .now) (Offer (a .action))
           e
-          (sym (c .before .before .before .before .before .before .before .before .before .before .short .ensures) ∙ c .before .before .before .before .before .before .before .before .before .if1 .left)
-          (state-fits (a .policy .now) (a .state .now) (sym (c .before .before .before .before .before .before .before .unfit .ensures) ∙ c .before .before .before .before .before .before .if2 .left)),
+          (sym (c .before .before .before .before .before .before .before .before .before .before .broken11 .ensures) ∙ c .before .before .before .before .before .before .before .before .before .if1 .left)
+          (state-fits (a .policy .now) (a .state .now) (sym (c .before .before .before .before .before .before .before .broken12 .ensures) ∙ c .before .before .before .before .before .before .if2 .left)),
       passed-sets (a .policy .now) _ _ e .0,
     )
 
@@ -81,10 +81,10 @@ unfolding offers refusals
 returns-6 c =
     let a = c .before .before .before .before .before .before .before .before .before .before .before .before .before .before .before .before .before .before .before .before .before .before .before .before .before .args in
     let l = all-left (a .policy .now) (spec.offer (a .action)) (a .state .now) (a .events .now) (check-passes (a .policy .now) (c .before .before .before .before .before .before .before .before .before .before .before .before .before .before .before .before .before .before .before .before .before .check .ensures) (c .before .before .before .before .before .before .before .before .before .before .before .before .before .before .before .before .before .before .before .checked .given .1)) in
-    let l₁ = next-left l (sym (c .before .before .before .before .before .before .before .before .before .before .before .before .before .before .before .short .ensures) ∙ c .before .before .before .before .before .before .before .before .before .before .before .before .before .before .if1 .left) in
-    let l₂ = next-left l₁ (sym (c .before .before .before .before .before .before .before .before .before .before .before .before .unfit .ensures) ∙ c .before .before .before .before .before .before .before .before .before .before .before .if2 .left) in
+    let l₁ = next-left l (sym (c .before .before .before .before .before .before .before .before .before .before .before .before .before .before .before .broken11 .ensures) ∙ c .before .before .before .before .before .before .before .before .before .before .before .before .before .before .if1 .left) in
+    let l₂ = next-left l₁ (sym (c .before .before .before .before .before .before .before .before .before .before .before .before .broken12 .ensures) ∙ c .before .before .before .before .before .before .before .before .before .before .before .if2 .left) in
     let l₃ = next-left l₂ (an-action (a .action) (omega arith)) in
-    let l₄ = next-left l₃ (sym (c .before .before .before .before .before .before .before .before .before .halted .ensures) ∙ c .before .before .before .before .before .before .before .if4 .left) in
+    let l₄ = next-left l₃ (sym (c .before .before .before .before .before .before .before .before .before .broken14 .ensures) ∙ c .before .before .before .before .before .before .before .if4 .left) in
     none-left l₄ (c .before .before .before .before .carry-action .ensures)
 
 pub offer-spec : {M : Type 1} → statement M
@@ -100,11 +100,11 @@ offer-spec =
     (λ c. search needs)
     (λ c. search needs)
     returns-2
-    unfit-requires
+    broken12-requires
     (λ c. search needs)
     (λ c. search needs)
     returns-3
-    halted-requires
+    broken14-requires
     (λ c. search needs)
     (λ c. search needs)
     returns-4

@@ -1,9 +1,9 @@
 -- `open` meets its contract: the check's refusal, refusal 11, or the call carried out. Assumes nothing.
 use mathlib.Core.Path.{sym, _∙_}
 use borrow.Author.Needs.{needs}
-use Rattle.checking.proofs.Answers.{check-passes, check-refuses, number-refuses}
-use Rattle.turns.specs.Turn.{opening}
-use Rattle.turns.specs.Entries.{refusals, opens}
+use Rattle.check_policy.proofs.Answers.{check-passes, check-refuses, number-refuses}
+use Rattle.spec_turns.specs.Turn.{opening}
+use Rattle.spec_turns.specs.Entries.{refusals, opens}
 use Rattle.call_answer.specs.declared.Call.the-variants.{Open}
 use Rattle.call_answer.specs.Requests.{asked}
 use Rattle.call_carry.specs.Calls.{readable, asksRoot}
@@ -23,7 +23,7 @@ unfolding opens refusals
 returns-2 c =
     let a = c .before .before .before .before .before .before .before .before .before .before .args in
     let l = all-left (a .policy .now) opening (a .state .now) (a .events .now) (check-passes (a .policy .now) (c .before .before .before .before .before .before .check .ensures) (c .before .before .before .before .enum-told .given .1)) in
-    refused-here l (sym (c .before .short .ensures) ∙ c .if1 .taken)
+    refused-here l (sym (c .before .broken11 .ensures) ∙ c .if1 .taken)
 
 carry-out-requires : tie.Need-carry-out-requires
 unfolding readable asksRoot
@@ -32,7 +32,7 @@ carry-out-requires c κs =
     record {
       allowed = allowed (a .policy .now) (a .state .now) (a .events .now) Open
           (check-passes (a .policy .now) (c .before .before .before .before .before .before .before .before .check .ensures) (c .before .before .before .before .before .before .enum-told .given .1))
-          (sym (c .before .before .before .short .ensures) ∙ c .before .before .if1 .left)
+          (sym (c .before .before .before .broken11 .ensures) ∙ c .before .before .if1 .left)
           tt;
       asks = tt;
     }
@@ -42,7 +42,7 @@ unfolding opens refusals asked
 returns-3 c =
     let a = c .before .before .before .before .before .before .before .before .before .before .before .before .before .before .before .before .before .args in
     let l = all-left (a .policy .now) opening (a .state .now) (a .events .now) (check-passes (a .policy .now) (c .before .before .before .before .before .before .before .before .before .before .before .before .before .check .ensures) (c .before .before .before .before .before .before .before .before .before .before .before .enum-told .given .1)) in
-    let l₁ = next-left l (sym (c .before .before .before .before .before .before .before .before .short .ensures) ∙ c .before .before .before .before .before .before .before .if1 .left) in
+    let l₁ = next-left l (sym (c .before .before .before .before .before .before .before .before .broken11 .ensures) ∙ c .before .before .before .before .before .before .before .if1 .left) in
     none-left l₁ (c .before .before .before .before .carry-out .ensures)
 
 pub open-spec : {M : Type 1} → statement M

@@ -3,12 +3,14 @@ use mathlib.Core.Path.{_≡_}
 use native.Mathlib.Omega.{arith}
 use lib.ListN.{length}
 use borrow.Author.Needs.{needs}
-use Rattle.spelling.proofs.AddedLaws.{tells}
+use Rattle.spec_turns.specs.Saved.{stateSize}
+use Rattle.spec_turns.specs.Entries.{eventRoom}
+use Rattle.text_append.proofs.AddedLaws.{tells}
 use Rattle.guardrun.proofs.run.Statement.{statement}
 use Rattle.guardrun.proofs.run.Tie as tie
 
 abbrev Inv-loop : tie.InvT-loop
-Inv-loop policy state₀ events₀ text₀ request₀ left₀ state events text request left = (248 ≡ length state) × (512 ≡ length events) × (4096 ≡ length text)
+Inv-loop policy state₀ events₀ text₀ request₀ left₀ state events text request left = (stateSize ≡ length state) × (eventRoom ≡ length events) × (4096 ≡ length text)
 
 abbrev μ-loop : tie.MeasureT-loop
 μ-loop policy state₀ events₀ text₀ request₀ left₀ state events text request left = left

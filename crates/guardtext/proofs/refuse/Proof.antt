@@ -2,8 +2,8 @@
 use Prim.Native.Nat.{ℕ}
 use mathlib.Core.Path.{_≡_}
 use native.Mathlib.Omega.{arith}
-use Rattle.printing.proofs.PrintLaws.{given-text}
-use Rattle.spelling.proofs.AddedLaws.{refusal-short}
+use Rattle.text_print.proofs.PrintLaws.{given-text}
+use Rattle.text_append.proofs.AddedLaws.{refusal-short}
 use borrow.Author.Needs.{needs}
 use Rattle.guardtext.proofs.refuse.Statement.{statement}
 use Rattle.guardtext.proofs.refuse.Tie as tie

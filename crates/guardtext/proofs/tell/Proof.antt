@@ -1,7 +1,7 @@
 -- `tell` meets its contract. Assumes nothing.
 use mathlib.Core.Path.{sym, ap, _∙_}
-use Rattle.rules.proofs.Passed.{passed}
-use Rattle.checking.specs.Answers as checked
+use Rattle.spec_check.proofs.Passed.{passed}
+use Rattle.check_policy.specs.Answers as checked
 use Rattle.guardtext.specs.Shown.{answered}
 use Rattle.guardtext.proofs.ShownLaws.{gave-as, shown-long, shown-short}
 use borrow.Author.Needs.{needs}

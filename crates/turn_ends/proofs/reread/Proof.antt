@@ -3,7 +3,7 @@ use Prim.Native.Nat.{ℕ}
 use native.Mathlib.Omega.{arith}
 use mathlib.Core.Path.{refl, sym, ap, _∙_}
 use borrow.Author.Needs.{needs}
-use Rattle.turns.specs.Status.{statusOf}
+use Rattle.spec_turns.specs.Status.{statusOf}
 use Rattle.turn_memory.specs.Words.{view}
 use Rattle.turn_sides.proofs.Nodes.{sides, placed-here}
 use Rattle.turn_sides.proofs.StatusBytes.{joins}

@@ -1,6 +1,6 @@
 -- `affords` meets its contract. Assumes nothing.
 use borrow.Author.Needs.{needs}
-use Rattle.turns.specs.Turn.{affords}
+use Rattle.spec_turns.specs.Turn.{affords}
 use Rattle.turn_leaf.proofs.affords.Statement.{statement}
 use Rattle.turn_leaf.proofs.affords.Tie as tie
 

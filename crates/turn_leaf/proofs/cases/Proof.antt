@@ -1,7 +1,7 @@
 -- `cases` meets its contract. Assumes nothing.
 use mathlib.Core.Path.{ap, sym, _∙_}
-use Rattle.reading.specs.Kinds.{acaseOf}
-use Rattle.reading.specs.declared.Operand.{Operand}
+use Rattle.file_records.specs.Kinds.{acaseOf}
+use Rattle.file_records.specs.declared.Operand.{Operand}
 use Rattle.turn_leaf.proofs.LeafSteps.{of-step, takes-yes, takes-no, takes-halt}
 use borrow.Author.Needs.{needs}
 use Rattle.turn_leaf.proofs.cases.Statement.{statement}

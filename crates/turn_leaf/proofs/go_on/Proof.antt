@@ -2,19 +2,20 @@
 use native.Mathlib.Omega.{arith}
 use mathlib.Core.Path.{sym, _∙_}
 use borrow.Author.Needs.{needs}
-use Rattle.reading.proofs.Rows.{step-meant}
-use Rattle.reading.specs.Code.{codeAt}
+use Rattle.spec_policy.specs.Records.{rowPlace}
+use Rattle.file_records.proofs.Rows.{step-meant}
+use Rattle.file_records.specs.Code.{codeFrom}
 use Rattle.turn_leaf.proofs.LeafSteps.{of-move}
-use Rattle.reading.proofs.CodeLaws.{code-length, code-at}
+use Rattle.file_records.proofs.CodeLaws.{code-length, code-number}
 use Rattle.turn_leaf.proofs.LeafRuns.{in-code, in-count, far, Going, going-first, going-less, going-on, going-ends, past-count, halts-past}
 use Rattle.turn_leaf.proofs.go_on.Statement.{statement}
 use Rattle.turn_leaf.proofs.go_on.Tie as tie
 
 abbrev Inv-loop : tie.InvT-loop
-Inv-loop policy at count action offset counter o₀ n₀ o n = Going (codeAt policy at count) action offset counter o n
+Inv-loop policy first count action offset counter o₀ n₀ o n = Going (codeFrom policy first count) action offset counter o n
 
 abbrev μ-loop : tie.MeasureT-loop
-μ-loop policy at count action offset counter o₀ n₀ o n = far (codeAt policy at count) o
+μ-loop policy first count action offset counter o₀ n₀ o n = far (codeFrom policy first count) o
 
 returns : tie.Need-returns Inv-loop μ-loop
 returns c = let st = c .before .before in record {
@@ -25,34 +26,33 @@ returns c = let st = c .before .before in record {
 loop-holds : tie.Need-loop-holds Inv-loop μ-loop
 loop-holds c = going-first _ _ _ _ (in-code _ _ _ _ (c .if1 .left))
 
-cast-place : tie.Need-cast-place Inv-loop μ-loop
-cast-place c = let st = c .before .before .before in omega (arith, code-length (st .args .policy .now) (st .args .at) (st .args .count))
+cast-view-step : tie.Need-cast-view-step Inv-loop μ-loop
+cast-view-step c = let st = c .before .before .before in omega (arith, code-length (st .args .policy .now) (rowPlace (st .args .policy .now) (st .args .first)) (st .args .count))
 
-mul-step-at : tie.Need-mul-step-at Inv-loop μ-loop
-mul-step-at c = let st = c .before .before .before in omega (arith, code-length (st .args .policy .now) (st .args .at) (st .args .count))
+add-view-step : tie.Need-add-view-step Inv-loop μ-loop
+add-view-step c = let st = c .before .before .before in omega (arith, st .pre .0 .1, code-length (st .args .policy .now) (rowPlace (st .args .policy .now) (st .args .first)) (st .args .count))
 
-add-step-at : tie.Need-add-step-at Inv-loop μ-loop
-add-step-at c = let st = c .before .before .before in omega (arith, code-length (st .args .policy .now) (st .args .at) (st .args .count))
-
-step-at-requires : tie.Need-step-at-requires Inv-loop μ-loop
-step-at-requires c κs = let st = c .before .before .before in omega (arith, code-length (st .args .policy .now) (st .args .at) (st .args .count))
+view-step-requires : tie.Need-view-step-requires Inv-loop μ-loop
+view-step-requires c κs =
+    let st = c .before .before .before in
+    (st .pre .0 .0, omega (arith, st .pre .0 .1, code-length (st .args .policy .now) (rowPlace (st .args .policy .now) (st .args .first)) (st .args .count)))
 
 loop-less : tie.Need-loop-less Inv-loop μ-loop
 loop-less c = let st = c .before .before .before .before .before .before .before .before in let lp = c .before .before .before .before .before in
     let g = lp .loop .inv in
-    going-less (st .pre .1) g (step-meant (c .before .before .before .before .step-at .ensures) ∙ sym (code-at _ _ _ _ (in-count _ _ _ _ (g .in-leaf))))
+    going-less (st .pre .1) g (step-meant (c .before .before .before .before .view-step .ensures) ∙ sym (code-number _ _ _ _ (in-count _ _ _ _ (g .in-leaf))))
     (of-move (c .before .m .given .1) (c .before .before .before .one-step .ensures))
 
 loop-again : tie.Need-loop-again Inv-loop μ-loop
 loop-again c = let st = c .before .before .before .before .before .before .before .before in let lp = c .before .before .before .before .before in
     let g = lp .loop .inv in
-    going-on (st .pre .1) g (step-meant (c .before .before .before .before .step-at .ensures) ∙ sym (code-at _ _ _ _ (in-count _ _ _ _ (g .in-leaf))))
+    going-on (st .pre .1) g (step-meant (c .before .before .before .before .view-step .ensures) ∙ sym (code-number _ _ _ _ (in-count _ _ _ _ (g .in-leaf))))
     (of-move (c .before .m .given .1) (c .before .before .before .one-step .ensures))
 
 returns-2 : tie.Need-returns-2 Inv-loop μ-loop
 returns-2 c = let st = c .before .before .before .before .before .before .before .before in let lp = c .before .before .before .before .before in
     let g = lp .loop .inv in record {
-      stops = going-ends (st .pre .1) g (step-meant (c .before .before .before .before .step-at .ensures) ∙ sym (code-at _ _ _ _ (in-count _ _ _ _ (g .in-leaf))))
+      stops = going-ends (st .pre .1) g (step-meant (c .before .before .before .before .view-step .ensures) ∙ sym (code-number _ _ _ _ (in-count _ _ _ _ (g .in-leaf))))
           (of-move (c .before .m2 .given .1) (c .before .before .before .one-step .ensures));
       less = g .less;
     }
@@ -65,10 +65,9 @@ go-on-spec =
     μ-loop
     returns
     loop-holds
-    cast-place
-    mul-step-at
-    add-step-at
-    step-at-requires
+    cast-view-step
+    add-view-step
+    view-step-requires
     (λ c κs. search needs)
     (λ c. search needs)
     loop-less

@@ -1,7 +1,7 @@
 -- `inserts` meets its contract. Assumes nothing.
 use mathlib.Core.Path.{ap}
-use Rattle.reading.specs.Kinds.{insOf}
-use Rattle.reading.specs.declared.Operand.{Operand}
+use Rattle.file_records.specs.Kinds.{insOf}
+use Rattle.file_records.specs.declared.Operand.{Operand}
 use Rattle.turn_leaf.proofs.LeafSteps.{of-step, takes-ins, takes-halt}
 use borrow.Author.Needs.{needs}
 use Rattle.turn_leaf.proofs.inserts.Statement.{statement}

@@ -1,6 +1,6 @@
 -- `one_step` meets its contract: each kind of step by its law. Assumes nothing.
 use mathlib.Core.Path.{ap}
-use Rattle.reading.specs.Kinds.{stepMeant}
+use Rattle.file_records.specs.Kinds.{stepMeant}
 use Rattle.turn_leaf.proofs.LeafSteps.{of-step, takes-next, takes-ok, takes-sup, takes-end, takes-halt}
 use borrow.Author.Needs.{needs}
 use Rattle.turn_leaf.proofs.one_step.Statement.{statement}

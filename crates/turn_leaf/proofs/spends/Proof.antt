@@ -2,9 +2,9 @@
 use native.Mathlib.Omega.{arith}
 use mathlib.Core.Path.{ap, sym, _∙_}
 use borrow.Author.Tests.{leb-true}
-use Rattle.turns.specs.Turn.{affords}
-use Rattle.reading.specs.Kinds.{spendOf}
-use Rattle.reading.specs.declared.Operand.{Operand}
+use Rattle.spec_turns.specs.Turn.{affords}
+use Rattle.file_records.specs.Kinds.{spendOf}
+use Rattle.file_records.specs.declared.Operand.{Operand}
 use Rattle.turn_leaf.proofs.LeafSteps.{of-step, takes-paid, takes-unpaid, takes-halt}
 use borrow.Author.Needs.{needs}
 use Rattle.turn_leaf.proofs.spends.Statement.{statement}

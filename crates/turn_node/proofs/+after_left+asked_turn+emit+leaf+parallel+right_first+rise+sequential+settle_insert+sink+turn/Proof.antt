@@ -7,11 +7,11 @@ use mathlib.Core.Bool.{Bool}
 use lib.Dec.{eqb}
 use mathlib.Core.Logic.{⊎-elim}
 use Rattle.actions.specs.Sets.{Action, EMPTY, union}
-use Rattle.policy.specs.Tree.{treeAt}
-use Rattle.rules.proofs.Grown.{shaped}
-use Rattle.turns.specs.Status.{isRunning}
-use Rattle.turns.specs.Turn.{Phase}
-use Rattle.reading.specs.Kinds.{wayOf, kindOf}
+use Rattle.spec_policy.specs.Tree.{treeAt}
+use Rattle.spec_check.specs.Numbers.{shaped}
+use Rattle.spec_turns.specs.Status.{isRunning}
+use Rattle.spec_turns.specs.Turn.{Phase}
+use Rattle.file_records.specs.Kinds.{wayOf, kindOf}
 use Rattle.turn_paths.specs.Beneath.{size}
 use Rattle.turn_paths.specs.Choices.{goesOn}
 use Rattle.turn_memory.specs.Words.{Words, view}
@@ -20,7 +20,7 @@ use Rattle.turn_sides.specs.Sides.{rightAt}
 use Rattle.turn_sides.proofs.StatusBytes.{phase-after}
 use Rattle.turn_sides.proofs.Nodes.{placed-here}
 use Rattle.turn_tables.specs.Tables.{pathAt}
-use Rattle.turn_tables.proofs.FileNodes.{node-room, tree-read}
+use Rattle.turn_tables.proofs.FileNodes.{node-in, tree-read}
 use Rattle.turn_place.specs.Places.{Keeps, Asked, leafRun, WentOn}
 use Rattle.turn_place.proofs.LeafPlaces.{low}
 use Rattle.turn_place.proofs.Ways.{stands-on, sided-of}
@@ -69,8 +69,7 @@ use Rattle.turn_node.proofs.+after_left+asked_turn+emit+leaf+parallel+r
 use Rattle.actions.proofs.ActionSet.has.Reads as has-reads
 use Rattle.actions.proofs.ActionSet.single.Reads as single-reads
 use Rattle.actions.proofs.ActionSet.union.Reads as union-reads
-use Rattle.reading.proofs.node_kind.Reads as node-kind-reads
-use Rattle.reading.proofs.node_place.Reads as node-place-reads
+use Rattle.file_view.proofs.view_kind.Reads as view-kind-reads
 use Rattle.turn_ends.proofs.caught.Reads as caught-reads
 use Rattle.turn_ends.proofs.over.Reads as over-reads
 use Rattle.turn_ends.proofs.par_end.Reads as par-end-reads
@@ -210,7 +209,7 @@ abbrev after-left-calls : ℕ → after-left-lts.Claims
 after-left-calls t = (joined-at-reads.Asked, joined-at-reads.Learnt, is-running-reads.Asked, is-running-reads.Learnt, goes-on-reads.Asked, goes-on-reads.Learnt, seq-end-reads.Asked, seq-end-reads.Learnt, right-of-reads.Asked, right-of-reads.Learnt, turn-below t, turn.Post)
 
 abbrev asked-turn-calls : ℕ → asked-turn-lts.Claims
-asked-turn-calls t = (node-place-reads.Asked, node-place-reads.Learnt, node-kind-reads.Asked, node-kind-reads.Learnt, leaf-below t, leaf.Post, over-reads.Asked, over-reads.Learnt, parallel-below t, parallel.Post, sequential-below t, sequential.Post)
+asked-turn-calls t = (view-kind-reads.Asked, view-kind-reads.Learnt, leaf-below t, leaf.Post, over-reads.Asked, over-reads.Learnt, parallel-below t, parallel.Post, sequential-below t, sequential.Post)
 
 abbrev emit-calls : ℕ → emit-lts.Claims
 emit-calls t = (rise-below t, rise.Post, sink-below t, sink.Post)
@@ -284,40 +283,37 @@ after-left-returns-3 t c =
     let e = c .before .before .before .before .before .before .before .before .before .before .before .before in
     own-ends (e .pre .1 .0) (e .pre .1 .1 .0) (phaseOf (e .args .phase)) (e .args .x) (ap (λ (v : Bool). goesOn (phaseOf (e .args .phase)) v (eqb (e .args .x) 1)) (sym (c .before .before .before .before .before .before .before .before .is-running .ensures ∙ ap isRunning (c .before .before .before .before .before .before .before .before .before .joined-at .ensures))) ∙ sym (c .before .before .before .before .before .before .before .goes-on .ensures) ∙ not-false _ (c .before .before .before .before .before .before .if1 .left)) (c .before .before .before .turn .result) (c .before .before .before .before .right-of .ensures) (c .before .before .before .turn .ensures) (c .before .before .if2 .left) (c .seq-end2 .result) (c .seq-end2 .ensures)
 
-asked-turn-node-place-requires : (t : ℕ) → asked-turn-lts.Need-node-place-requires (asked-turn-calls t) (asked-turn-at t) asked-turn.Post
-asked-turn-node-place-requires t c κs = omega (arith, low (c .before .pre .1 .0))
-
-asked-turn-node-kind-requires : (t : ℕ) → asked-turn-lts.Need-node-kind-requires (asked-turn-calls t) (asked-turn-at t) asked-turn.Post
-asked-turn-node-kind-requires t c κs =
-    let e = c .before .before in
-    node-room (e .pre .1 .0 .passed) _ _ (e .pre .1 .0 .inside) (c .node-place .ensures)
+asked-turn-view-kind-requires : (t : ℕ) → asked-turn-lts.Need-view-kind-requires (asked-turn-calls t) (asked-turn-at t) asked-turn.Post
+asked-turn-view-kind-requires t c κs =
+    let e = c .before in
+    node-in (e .pre .1 .0 .passed) _ (e .pre .1 .0 .inside)
 
 asked-turn-leaf-requires : (t : ℕ) → asked-turn-lts.Need-leaf-requires (asked-turn-calls t) (asked-turn-at t) asked-turn.Post
 unfolding kindOf
 asked-turn-leaf-requires t c κs =
-    let e = c .before .before .before .before .before .before in
-    (omega (arith, e .pre .0, size-some (treeAt (e .args .policy .now) (e .args .node))), (e .pre .1 .0, (kind-at _ _ (c .before .before .before .before .node-place .ensures) _ (c .before .before .before .node-kind .ensures) (c .before .enum-told .given .1), e .pre .1 .1)))
+    let e = c .before .before .before .before .before in
+    (omega (arith, e .pre .0, size-some (treeAt (e .args .policy .now) (e .args .node))), (e .pre .1 .0, (kind-at _ _ refl _ (c .before .before .before .view-kind .ensures) (c .before .enum-told .given .1), e .pre .1 .1)))
 
 asked-turn-over-requires : (t : ℕ) → asked-turn-lts.Need-over-requires (asked-turn-calls t) (asked-turn-at t) asked-turn.Post
-asked-turn-over-requires t c κs = low (c .before .before .before .before .before .before .pre .1 .0)
+asked-turn-over-requires t c κs = low (c .before .before .before .before .before .pre .1 .0)
 
 asked-turn-over-requires-2 : (t : ℕ) → asked-turn-lts.Need-over-requires-2 (asked-turn-calls t) (asked-turn-at t) asked-turn.Post
-asked-turn-over-requires-2 t c κs = low (c .before .before .before .before .before .before .pre .1 .0)
+asked-turn-over-requires-2 t c κs = low (c .before .before .before .before .before .pre .1 .0)
 
 asked-turn-parallel-requires : (t : ℕ) → asked-turn-lts.Need-parallel-requires (asked-turn-calls t) (asked-turn-at t) asked-turn.Post
 unfolding wayOf
 asked-turn-parallel-requires t c κs =
-    let e = c .before .before .before .before .before .before .before .before .before in
-    (omega (arith, e .pre .0), (e .pre .1 .0, (pair-kind _ _ (c .before .before .before .before .before .before .before .node-place .ensures) _ (c .before .before .before .before .before .before .node-kind .ensures) (c .before .before .before .before .kind .given .1) (c .before .enum-told4 .given .1), e .pre .1 .1)))
+    let e = c .before .before .before .before .before .before .before .before in
+    (omega (arith, e .pre .0), (e .pre .1 .0, (pair-kind _ _ refl _ (c .before .before .before .before .before .before .view-kind .ensures) (c .before .before .before .before .kind .given .1) (c .before .enum-told4 .given .1), e .pre .1 .1)))
 
 asked-turn-sequential-requires : (t : ℕ) → asked-turn-lts.Need-sequential-requires (asked-turn-calls t) (asked-turn-at t) asked-turn.Post
 unfolding wayOf
 asked-turn-sequential-requires t c κs =
-    let e = c .before .before .before .before .before .before .before .before .before in
-    (omega (arith, e .pre .0), (e .pre .1 .0, (pair-kind _ _ (c .before .before .before .before .before .before .before .node-place .ensures) _ (c .before .before .before .before .before .before .node-kind .ensures) (c .before .before .before .before .kind .given .1) (c .before .enum-told5 .given .1), e .pre .1 .1)))
+    let e = c .before .before .before .before .before .before .before .before in
+    (omega (arith, e .pre .0), (e .pre .1 .0, (pair-kind _ _ refl _ (c .before .before .before .before .before .before .view-kind .ensures) (c .before .before .before .before .kind .given .1) (c .before .enum-told5 .given .1), e .pre .1 .1)))
 
 asked-turn-over-requires-3 : (t : ℕ) → asked-turn-lts.Need-over-requires-3 (asked-turn-calls t) (asked-turn-at t) asked-turn.Post
-asked-turn-over-requires-3 t c κs = low (c .before .before .before .before .before .before .pre .1 .0)
+asked-turn-over-requires-3 t c κs = low (c .before .before .before .before .before .pre .1 .0)
 
 asked-turn-returns : (t : ℕ) → asked-turn-lts.Need-returns (asked-turn-calls t) (asked-turn-at t) asked-turn.Post
 asked-turn-returns t c = c .leaf .ensures
@@ -325,14 +321,14 @@ asked-turn-returns t c = c .leaf .ensures
 asked-turn-returns-2 : (t : ℕ) → asked-turn-lts.Need-returns-2 (asked-turn-calls t) (asked-turn-at t) asked-turn.Post
 unfolding kindOf shaped
 asked-turn-returns-2 t c =
-    let e = c .before .before .before .before .before .before .before in
-    trivial-turn (e .pre .1 .0) _ (e .pre .1 .1) (c .over .ensures .0) (tree-read (e .pre .1 .0 .passed) _ (e .pre .1 .0 .inside) (c .before .before .before .before .before .node-place .ensures) _ (c .before .before .before .before .node-kind .ensures) (c .before .before .enum-told2 .given .1)) (c .over .ensures .1)
+    let e = c .before .before .before .before .before .before in
+    trivial-turn (e .pre .1 .0) _ (e .pre .1 .1) (c .over .ensures .0) (tree-read (e .pre .1 .0 .passed) _ (e .pre .1 .0 .inside) refl _ (c .before .before .before .before .view-kind .ensures) (c .before .before .enum-told2 .given .1)) (c .over .ensures .1)
 
 asked-turn-returns-3 : (t : ℕ) → asked-turn-lts.Need-returns-3 (asked-turn-calls t) (asked-turn-at t) asked-turn.Post
 unfolding kindOf shaped
 asked-turn-returns-3 t c =
-    let e = c .before .before .before .before .before .before .before in
-    unsatisfiable-turn (e .pre .1 .0) _ (e .pre .1 .1) (c .over2 .ensures .0) (tree-read (e .pre .1 .0 .passed) _ (e .pre .1 .0 .inside) (c .before .before .before .before .before .node-place .ensures) _ (c .before .before .before .before .node-kind .ensures) (c .before .before .enum-told3 .given .1)) (c .over2 .ensures .1)
+    let e = c .before .before .before .before .before .before in
+    unsatisfiable-turn (e .pre .1 .0) _ (e .pre .1 .1) (c .over2 .ensures .0) (tree-read (e .pre .1 .0 .passed) _ (e .pre .1 .0 .inside) refl _ (c .before .before .before .before .view-kind .ensures) (c .before .before .enum-told3 .given .1)) (c .over2 .ensures .1)
 
 asked-turn-returns-4 : (t : ℕ) → asked-turn-lts.Need-returns-4 (asked-turn-calls t) (asked-turn-at t) asked-turn.Post
 asked-turn-returns-4 t c = c .parallel .ensures
@@ -343,8 +339,8 @@ asked-turn-returns-5 t c = c .sequential .ensures
 asked-turn-returns-6 : (t : ℕ) → asked-turn-lts.Need-returns-6 (asked-turn-calls t) (asked-turn-at t) asked-turn.Post
 unfolding kindOf shaped
 asked-turn-returns-6 t c =
-    let e = c .before .before .before .before .before .before .before in
-    trivial-turn (e .pre .1 .0) _ (e .pre .1 .1) (c .over3 .ensures .0) (tree-read (e .pre .1 .0 .passed) _ (e .pre .1 .0 .inside) (c .before .before .before .before .before .node-place .ensures) _ (c .before .before .before .before .node-kind .ensures) (c .before .before .enum-told6 .given .1)) (c .over3 .ensures .1)
+    let e = c .before .before .before .before .before .before in
+    trivial-turn (e .pre .1 .0) _ (e .pre .1 .1) (c .over3 .ensures .0) (tree-read (e .pre .1 .0 .passed) _ (e .pre .1 .0 .inside) refl _ (c .before .before .before .before .view-kind .ensures) (c .before .before .enum-told6 .given .1)) (c .over3 .ensures .1)
 
 emit-rise-requires : (t : ℕ) → emit-lts.Need-rise-requires (emit-calls t) (emit-at t) emit.Post
 emit-rise-requires t c κs =
@@ -765,7 +761,7 @@ pub +after-left+asked-turn+emit+leaf+parallel+right-first+rise+sequential+settle
     μ-sink
     μ-turn
     (λ t. after-left-lts.spec (after-left-calls t) (after-left-at t) after-left.Post (after-left-joined-at-requires t) (λ c κs. search needs) (after-left-goes-on-requires t) (after-left-seq-end-requires t) (after-left-returns t) (after-left-right-of-requires t) (after-left-turn-requires t) (after-left-returns-2 t) (after-left-seq-end-requires-2 t) (after-left-returns-3 t))
-    (λ t. asked-turn-lts.spec (asked-turn-calls t) (asked-turn-at t) asked-turn.Post (asked-turn-node-place-requires t) (asked-turn-node-kind-requires t) (λ c. search needs) (asked-turn-leaf-requires t) (λ c. search needs) (asked-turn-over-requires t) (λ c. search needs) (asked-turn-over-requires-2 t) (λ c. search needs) (λ c. search needs) (asked-turn-parallel-requires t) (λ c. search needs) (asked-turn-sequential-requires t) (λ c. search needs) (asked-turn-over-requires-3 t) (asked-turn-returns t) (asked-turn-returns-2 t) (asked-turn-returns-3 t) (asked-turn-returns-4 t) (asked-turn-returns-5 t) (asked-turn-returns-6 t))
+    (λ t. asked-turn-lts.spec (asked-turn-calls t) (asked-turn-at t) asked-turn.Post (asked-turn-view-kind-requires t) (λ c. search needs) (asked-turn-leaf-requires t) (λ c. search needs) (asked-turn-over-requires t) (λ c. search needs) (asked-turn-over-requires-2 t) (λ c. search needs) (λ c. search needs) (asked-turn-parallel-requires t) (λ c. search needs) (asked-turn-sequential-requires t) (λ c. search needs) (asked-turn-over-requires-3 t) (asked-turn-returns t) (asked-turn-returns-2 t) (asked-turn-returns-3 t) (asked-turn-returns-4 t) (asked-turn-returns-5 t) (asked-turn-returns-6 t))
     (λ t. emit-lts.spec (emit-calls t) (emit-at t) emit.Post (emit-rise-requires t) (emit-returns t) (emit-sink-requires t) (emit-returns-2 t))
     (λ t. leaf-lts.spec (leaf-calls t) (leaf-at t) leaf.Post leaf-Inv-loop leaf-μ-loop (leaf-begin-leaf-requires t) (leaf-loop-holds t) (leaf-run-leaf-requires t) (λ c. search needs) (leaf-emit-requires t) (leaf-returns t) (leaf-loop-less t) (leaf-loop-again t) (λ c. search needs) (λ c. search needs) (leaf-returns-2 t))
     (λ t. parallel-lts.spec (parallel-calls t) (parallel-at t) parallel.Post (parallel-left-of-requires t) (parallel-turn-requires t) (parallel-returns t) (parallel-right-of-requires t) (parallel-turn-requires-2 t) (parallel-returns-2 t) (parallel-par-end-requires t) (parallel-returns-3 t))

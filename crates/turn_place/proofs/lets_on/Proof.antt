@@ -4,8 +4,8 @@ use native.Mathlib.Omega.{arith}
 use mathlib.Core.Path.{ap, ap₂, _∙_}
 use lib.Dec.{eqb}
 use borrow.Author.Needs.{needs}
-use Rattle.policy.specs.Tree.{Join}
-use Rattle.turns.specs.Status.{Status}
+use Rattle.spec_policy.specs.Tree.{Join}
+use Rattle.spec_turns.specs.Status.{Status}
 use Rattle.turn_paths.specs.Choices.{emits}
 use Rattle.turn_memory.specs.Words.{view}
 use Rattle.turn_sides.proofs.Nodes.{sides, placed-here}

@@ -7,7 +7,7 @@ use borrow.Author.Needs.{needs}
 use borrow.Author.Tests.{not-true, not-false}
 use lib.ListN.{getD}
 use Rattle.actions.specs.Sets.{Action, has}
-use Rattle.policy.specs.Bytes.{Bytes}
+use Rattle.spec_policy.specs.Bytes.{Bytes}
 use Rattle.turn_paths.specs.Rising.{takes, Skips, here}
 use Rattle.turn_paths.specs.Choices.{askedIn}
 use Rattle.turn_memory.specs.Words.{Words, setPlace, view}

@@ -1,10 +1,10 @@
 -- `emits` meets its contract. Assumes nothing.
 use mathlib.Core.Path.{sym, ap, _∙_}
 use mathlib.Core.Bool.{true, false}
-use Rattle.reading.specs.Kinds as kinds
-use Rattle.reading.specs.declared.Join.{Join}
+use Rattle.file_records.specs.Kinds as kinds
+use Rattle.file_records.specs.declared.Join.{Join}
 use Rattle.turn_paths.specs.Choices.{emits}
-use Rattle.turns.specs.Status.{statusOf}
+use Rattle.spec_turns.specs.Status.{statusOf}
 use Rattle.turn_sides.proofs.StatusBytes.{emits-and, emits-or}
 use borrow.Author.Needs.{needs}
 use Rattle.turn_sides.proofs.emits.Statement.{statement}

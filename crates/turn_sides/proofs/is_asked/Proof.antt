@@ -2,7 +2,7 @@
 use mathlib.Core.Path.{sym, ap, _∙_}
 use borrow.Author.Needs.{needs}
 use borrow.Author.Tests.{not-true, not-false}
-use Rattle.turns.specs.Status.{isRunning}
+use Rattle.spec_turns.specs.Status.{isRunning}
 use Rattle.turn_sides.proofs.StatusBytes.{asked-idle, asked-before, asked-after, asked-closing}
 use Rattle.turn_memory.proofs.CellLaws.{status-read, mark-read}
 use Rattle.turn_sides.proofs.is_asked.Statement.{statement}

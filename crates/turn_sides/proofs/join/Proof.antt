@@ -1,8 +1,8 @@
 -- `join` meets its contract. Assumes nothing.
 use mathlib.Core.Path.{sym, ap, _∙_}
-use Rattle.reading.specs.Kinds as kinds
-use Rattle.reading.specs.declared.Join.{Join}
-use Rattle.turns.specs.Status.{statusOf, joined}
+use Rattle.file_records.specs.Kinds as kinds
+use Rattle.file_records.specs.declared.Join.{Join}
+use Rattle.spec_turns.specs.Status.{statusOf, joined}
 use borrow.Author.Needs.{needs}
 use Rattle.turn_sides.proofs.join.Statement.{statement}
 use Rattle.turn_sides.proofs.join.Tie as tie

@@ -1,6 +1,6 @@
 -- `join_and` meets its contract. Assumes nothing.
 use mathlib.Core.Path.{sym, _∙_}
-use Rattle.turns.specs.Status.{statusOf}
+use Rattle.spec_turns.specs.Status.{statusOf}
 use Rattle.turn_sides.proofs.StatusBytes.{and-left-halted, and-right-halted, and-both-ended, and-runs-left, and-runs-right}
 use borrow.Author.Needs.{needs}
 use Rattle.turn_sides.proofs.join_and.Statement.{statement}

@@ -1,6 +1,6 @@
 -- `join_or` meets its contract. Assumes nothing.
 use mathlib.Core.Path.{sym, _∙_}
-use Rattle.turns.specs.Status.{statusOf}
+use Rattle.spec_turns.specs.Status.{statusOf}
 use Rattle.turn_sides.proofs.StatusBytes.{or-left-ended, or-right-ended, or-both-halted, or-runs-left, or-runs-right}
 use borrow.Author.Needs.{needs}
 use Rattle.turn_sides.proofs.join_or.Statement.{statement}

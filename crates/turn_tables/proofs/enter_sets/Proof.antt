@@ -3,7 +3,7 @@ use native.Mathlib.Omega.{arith}
 use mathlib.Core.Path.{refl}
 use Rattle.actions.specs.Sets.{EMPTY}
 use borrow.Author.Needs.{needs}
-use Rattle.turn_tables.proofs.FileNodes.{node-room}
+use Rattle.turn_tables.proofs.FileNodes.{node-in}
 use Rattle.turn_tables.proofs.FillLaws.{Filled, filled-none, steps-some, sets-later, filled-more, filled-all}
 use Rattle.turn_tables.proofs.enter_sets.Statement.{statement}
 use Rattle.turn_tables.proofs.enter_sets.Tie as tie
@@ -26,43 +26,40 @@ regulated-requires c κs =
     let g = c .before .before .loop .inv in
     ((st .pre .0 .0, omega (arith, g .below, g .nodes, c .before .loop-test .taken)), sets-later g (c .before .loop-test .taken))
 
-node-place-requires : tie.Need-node-place-requires Inv-loop μ-loop
-node-place-requires c κs = let g = c .before .before .before .loop .inv in omega (arith, g .below, g .few)
-
 owned-requires : tie.Need-owned-requires Inv-loop μ-loop
 owned-requires c κs =
-    let st = c .before .before .before .before .before .before in
-    let g = c .before .before .before .before .loop .inv in
-    node-room (st .pre .0 .0) _ _ (omega (arith, g .below, g .nodes, c .before .before .before .loop-test .taken)) (c .node-place .ensures)
+    let st = c .before .before .before .before .before in
+    let g = c .before .before .before .loop .inv in
+    node-in (st .pre .0 .0) _ (omega (arith, g .below, g .nodes, c .before .before .loop-test .taken))
 
 sub-first : tie.Need-sub-first Inv-loop μ-loop
 sub-first c =
-    steps-some (c .before .before .before .before .before .loop .inv) (c .before .before .before .before .loop-test .taken) _ _ (c .before .node-place .ensures)
+    steps-some (c .before .before .before .before .loop .inv) (c .before .before .before .loop-test .taken) _ _ refl
     (c .owned .ensures)
 
 add-mem : tie.Need-add-mem Inv-loop μ-loop
-add-mem c = let g = c .before .before .before .before .before .loop .inv in omega (arith, g .below, g .few)
+add-mem c = let g = c .before .before .before .before .loop .inv in omega (arith, g .below, g .few)
 
 mul-mem : tie.Need-mul-mem Inv-loop μ-loop
-mul-mem c = let g = c .before .before .before .before .before .loop .inv in omega (arith, g .below, g .few)
+mul-mem c = let g = c .before .before .before .before .loop .inv in omega (arith, g .below, g .few)
 
 element-write-mem : tie.Need-element-write-mem Inv-loop μ-loop
-element-write-mem c = let g = c .before .before .before .before .before .loop .inv in omega (arith, g .below, g .few)
+element-write-mem c = let g = c .before .before .before .before .loop .inv in omega (arith, g .below, g .few)
 
 link-requires : tie.Need-link-requires Inv-loop μ-loop
 link-requires c κs =
-    let g = c .before .before .before .before .before .before .loop .inv in
-    (omega (arith, g .below, g .few, c .before .before .before .before .before .loop-test .taken), (omega (arith, g .little), omega arith))
+    let g = c .before .before .before .before .before .loop .inv in
+    (omega (arith, g .below, g .few, c .before .before .before .before .loop-test .taken), (omega (arith, g .little), omega arith))
 
 loop-less : tie.Need-loop-less Inv-loop μ-loop
-loop-less c = omega (arith, c .before .before .before .before .before .before .loop-test .taken)
+loop-less c = omega (arith, c .before .before .before .before .before .loop-test .taken)
 
 loop-again : tie.Need-loop-again Inv-loop μ-loop
 unfolding EMPTY
 loop-again c =
-    let g = c .before .before .before .before .before .before .before .loop .inv in
-    filled-more g (c .before .before .before .before .before .before .loop-test .taken) _ _ _ _ (c .before .before .before .before .regulated .ensures)
-    (c .before .before .before .node-place .ensures) (c .before .before .owned .ensures) refl (c .link .ensures)
+    let g = c .before .before .before .before .before .before .loop .inv in
+    filled-more g (c .before .before .before .before .before .loop-test .taken) _ _ _ _ (c .before .before .before .regulated .ensures)
+    refl (c .before .before .owned .ensures) refl (c .link .ensures)
 
 returns : tie.Need-returns Inv-loop μ-loop
 returns c = filled-all (c .before .loop .inv) (c .loop-test .left)
@@ -76,7 +73,6 @@ enter-sets-spec =
     loop-holds
     sub-i
     regulated-requires
-    node-place-requires
     owned-requires
     (λ c. search needs)
     sub-first

@@ -2,7 +2,7 @@
 use Prim.Native.Nat.{ℕ}
 use mathlib.Core.Path.{_∙_, ap}
 use borrow.Author.Needs.{needs}
-use Rattle.reading.specs.Kinds.{wayOf}
+use Rattle.file_records.specs.Kinds.{wayOf}
 use Rattle.actions.specs.Sets.{union}
 use Rattle.turn_tables.proofs.EntryLaws.{sides-parallel, sides-sequential}
 use Rattle.turn_tables.proofs.link_sides.Statement.{statement}

@@ -1,6 +1,6 @@
 -- `ask` meets its contract. Assumes nothing.
 use mathlib.Core.Path.{sym, ap}
-use Rattle.turns.specs.Entries.{opens, offers, closes}
+use Rattle.spec_turns.specs.Entries.{opens, offers, closes}
 use Rattle.call_answer.specs.Requests.{asked}
 use Rattle.call_answer.proofs.Heard.{gave-as}
 use borrow.Author.Needs.{needs}

@@ -5,9 +5,9 @@ use mathlib.Core.Path.{sym, ap, _∙_}
 use lib.ListN.{length}
 use lib.Seq.{length-take-le}
 use borrow.Author.Needs.{needs}
-use Rattle.transcribing.specs.Transcribed.{gave}
-use Rattle.blaming.specs.Expected.{faultIn}
-use Rattle.blaming.proofs.FaultLaws.{fault-in-short}
+use Rattle.text_read.specs.Transcribed.{gave}
+use Rattle.text_fault.specs.Expected.{faultIn}
+use Rattle.text_fault.proofs.FaultLaws.{fault-in-short}
 use Rattle.guardwrite.proofs.ToldLaws.{instead, line-tells, was-read, was-bad, was-short}
 use Rattle.guardwrite.proofs.told.fill.Statement.{statement}
 use Rattle.guardwrite.proofs.told.fill.Tie as tie

@@ -1,7 +1,7 @@
 -- `refused` meets its contract: there is room for a refusal. Assumes nothing.
 use native.Mathlib.Omega.{arith}
 use borrow.Author.Needs.{needs}
-use Rattle.spelling.proofs.AddedLaws.{tells, refusal-short}
+use Rattle.text_append.proofs.AddedLaws.{tells, refusal-short}
 use Rattle.guardwrite.proofs.told.refused.Statement.{statement}
 use Rattle.guardwrite.proofs.told.refused.Tie as tie
 

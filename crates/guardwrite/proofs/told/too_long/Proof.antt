@@ -3,9 +3,9 @@ use native.Mathlib.Omega.{arith}
 use mathlib.Core.Path.{sym}
 use lib.Seq.{length-take-le}
 use borrow.Author.Needs.{needs}
-use Rattle.text.specs.Words.{ascii}
-use Rattle.blaming.specs.Expected.{lineSays}
-use Rattle.spelling.proofs.AddedLaws.{joined}
+use Rattle.spec_text.specs.Words.{ascii}
+use Rattle.text_fault.specs.Expected.{lineSays}
+use Rattle.text_append.proofs.AddedLaws.{joined}
 use Rattle.guardwrite.proofs.ToldLaws.{long-tells}
 use Rattle.guardwrite.proofs.told.too_long.Statement.{statement}
 use Rattle.guardwrite.proofs.told.too_long.Tie as tie

@@ -1,6 +1,6 @@
 -- `check_bytes` meets its contract: what `spell` gives is the answer in bytes, in each of its two cases. Assumes nothing.
 use mathlib.Core.Path.{sym, ap, _∙_}
-use Rattle.checking.specs.Answers.{answered}
+use Rattle.check_policy.specs.Answers.{answered}
 use Rattle.trials.specs.Calls.{answerBytes}
 use borrow.Author.Needs.{needs}
 use Rattle.trials.proofs.answers.check_bytes.Statement.{statement}

@@ -1,5 +1,5 @@
 -- `enter` meets its contract. Assumes nothing.
-use Rattle.turns.specs.Entries.{opens, offers, closes}
+use Rattle.spec_turns.specs.Entries.{opens, offers, closes}
 use Rattle.trials.proofs.CallLaws.{request-open, request-offer, request-close}
 use borrow.Author.Needs.{needs}
 use Rattle.trials.proofs.answers.enter.Statement.{statement}

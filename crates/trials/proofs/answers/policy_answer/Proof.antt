@@ -1,8 +1,8 @@
 -- `policy_answer` meets its contract: a policy that is placed lies inside the bytes. Assumes nothing.
 use Rattle.trials.proofs.CallLaws.{policy-part}
 use Rattle.trials.specs.Calls.{part, answerBytes}
-use Rattle.rules.specs.Check.{check}
-use Rattle.policy.specs.Bytes.{Bytes}
+use Rattle.spec_check.specs.Check.{check}
+use Rattle.spec_policy.specs.Bytes.{Bytes}
 use mathlib.Core.Path.{ap, _∙_}
 use borrow.Author.Needs.{needs}
 use Rattle.trials.proofs.answers.policy_answer.Statement.{statement}

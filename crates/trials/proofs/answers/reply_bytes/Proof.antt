@@ -1,6 +1,6 @@
 -- `reply_bytes` meets its contract. Assumes nothing.
 use mathlib.Core.Path.{ap, sym}
-use Rattle.policy.specs.Bytes.{spell}
+use Rattle.spec_policy.specs.Bytes.{spell}
 use Rattle.trials.specs.Calls.{replyBytes}
 use borrow.Author.Needs.{needs}
 use Rattle.trials.proofs.answers.reply_bytes.Statement.{statement}

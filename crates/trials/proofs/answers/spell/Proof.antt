@@ -1,6 +1,6 @@
 -- `spell` meets its contract: each byte is the definition's. Assumes nothing.
 use mathlib.Core.Path.{refl}
-use Rattle.policy.specs.Bytes.{spell}
+use Rattle.spec_policy.specs.Bytes.{spell}
 use borrow.Author.Needs.{needs}
 use Rattle.trials.proofs.answers.spell.Statement.{statement}
 use Rattle.trials.proofs.answers.spell.Tie as tie

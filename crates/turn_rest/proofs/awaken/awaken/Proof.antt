@@ -1,7 +1,8 @@
 -- `awaken` meets its contract. The invariant: the nodes below i are not yet opened. Assumes nothing.
 use Prim.Native.Nat.{_-_}
 use native.Mathlib.Omega.{arith}
-use Rattle.turn_tables.proofs.FileNodes.{room, node-room}
+use mathlib.Core.Path.{refl}
+use Rattle.turn_tables.proofs.FileNodes.{room, node-in}
 use Rattle.turn_rest.proofs.Awakened.{Filled, filled-none, filled-more, filled-kept, filled-words, Opens, opens-here, opens}
 use Rattle.turn_rest.proofs.awaken.awaken.Statement.{statement}
 use Rattle.turn_rest.proofs.awaken.awaken.Tie as tie
@@ -12,30 +13,24 @@ Inv-loop policy n mem₀ i₀ mem i = Filled (Opens policy) n mem₀ mem i
 abbrev μ-loop : tie.MeasureT-loop
 μ-loop policy n mem₀ i₀ mem i = n - i
 
-node-place-requires : tie.Need-node-place-requires Inv-loop μ-loop
-node-place-requires c κs =
+view-start-requires : tie.Need-view-start-requires Inv-loop μ-loop
+view-start-requires c κs =
     let st = c .before .before .before .before in
-    let r = room (st .pre .0 .0) in
-    omega (arith, st .pre .0 .1, c .before .loop-test .taken)
-
-node-start-requires : tie.Need-node-start-requires Inv-loop μ-loop
-node-start-requires c κs =
-    let st = c .before .before .before .before .before in
-    node-room (st .pre .0 .0) _ _ (omega (arith, st .pre .0 .1, c .before .before .loop-test .taken)) (c .node-place .ensures)
+    node-in (st .pre .0 .0) _ (omega (arith, st .pre .0 .1, c .before .loop-test .taken))
 
 put-requires : tie.Need-put-requires Inv-loop μ-loop
 put-requires c κs =
-    let st = c .before .before .before .before .before .before in
+    let st = c .before .before .before .before .before in
     let r = room (st .pre .0 .0) in
-    (omega (arith, st .pre .0 .1, c .before .before .before .loop-test .taken), c .node-start .ensures .1)
+    (omega (arith, st .pre .0 .1, c .before .before .loop-test .taken), c .view-start .ensures .1)
 
 loop-again : tie.Need-loop-again Inv-loop μ-loop
 loop-again c =
-    let st = c .before .before .before .before .before .before .before in
-    let t = c .before .before .before .before .loop-test .taken in
+    let st = c .before .before .before .before .before .before in
+    let t = c .before .before .before .loop-test .taken in
     let r = room (st .pre .0 .0) in
-    filled-more (c .before .before .before .before .before .loop .inv) t (omega (arith, t, st .pre .0 .1, st .pre .1))
-    (opens-here _ _ (c .before .before .node-place .ensures) (c .before .node-start .ensures)) (c .put .ensures)
+    filled-more (c .before .before .before .before .loop .inv) t (omega (arith, t, st .pre .0 .1, st .pre .1))
+    (opens-here _ _ refl (c .before .view-start .ensures)) (c .put .ensures)
 
 returns : tie.Need-returns Inv-loop μ-loop
 returns c =
@@ -50,10 +45,9 @@ awaken-spec =
     Inv-loop
     μ-loop
     (λ c. filled-none _ _ _)
-    node-place-requires
-    node-start-requires
+    view-start-requires
     put-requires
-    (λ c. omega (arith, c .before .before .before .before .loop-test .taken))
-    (λ c. omega (arith, c .before .before .before .before .loop-test .taken))
+    (λ c. omega (arith, c .before .before .before .loop-test .taken))
+    (λ c. omega (arith, c .before .before .before .loop-test .taken))
     loop-again
     returns)

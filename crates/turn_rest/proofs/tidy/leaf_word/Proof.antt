@@ -2,7 +2,7 @@
 use Prim.Native.Nat.{ℕ, _<_}
 use native.Mathlib.Omega.{arith}
 use mathlib.Core.Path.{ap, ap₂, _∙_, subst}
-use Rattle.policy.specs.Bytes.{spell}
+use Rattle.spec_policy.specs.Bytes.{spell}
 use Rattle.turn_memory.specs.Words.{packed}
 use Rattle.turn_memory.proofs.CellLaws.{offset-in, counter-in}
 use Rattle.turn_rest.specs.Rest.{ownOf}

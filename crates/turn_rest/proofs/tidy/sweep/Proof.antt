@@ -22,8 +22,8 @@ rest-requires c κs =
     let p = c .before .before .before .before .before .pre in
     ((p .0 .0, omega (arith, c .before .loop-test .taken, p .0 .1)), c .before .before .loop .inv .words)
 
-write-requires : tie.Need-write-requires Inv-loop μ-loop
-write-requires c κs =
+save-word-requires : tie.Need-save-word-requires Inv-loop μ-loop
+save-word-requires c κs =
     let p = c .before .before .before .before .before .before .before .pre in
     let r = room (p .0 .0) in
     (c .before .before .before .before .loop .inv .size, omega (arith, c .before .before .before .loop-test .taken, p .0 .1))
@@ -33,7 +33,7 @@ loop-again c =
     let p = c .before .before .before .before .before .before .before .before .before .before .pre in
     let r = c .before .before .before .before .rest .ensures in
     swept-more (p .0 .0) _ (c .before .before .before .before .before .before .before .loop .inv)
-    (omega (arith, c .before .before .before .before .before .before .loop-test .taken, p .0 .1)) (r .under) (r .word) (c .before .before .write .ensures)
+    (omega (arith, c .before .before .before .before .before .before .loop-test .taken, p .0 .1)) (r .under) (r .word) (c .before .before .save-word .ensures)
 
 returns : tie.Need-returns Inv-loop μ-loop
 returns c = let p = c .before .before .before .before .pre in swept-all (c .before .loop .inv) (c .loop-test .left) (p .0 .1)
@@ -46,7 +46,7 @@ sweep-spec =
     μ-loop
     loop-holds
     rest-requires
-    write-requires
+    save-word-requires
     (λ c. omega (arith, c .before .before .before .before .before .before .loop-test .taken))
     (λ c. omega (arith, c .before .before .before .before .before .before .loop-test .taken))
     loop-again

@@ -6,20 +6,17 @@ use Rattle.turn_rest.proofs.TidyLaws.{tidied}
 use Rattle.turn_rest.proofs.tidy.tidy.Statement.{statement}
 use Rattle.turn_rest.proofs.tidy.tidy.Tie as tie
 
-mul-clear : tie.Need-mul-clear
-mul-clear c = let p = c .before .before .before .before .before .before .before .before .pre in let r = room (p .0 .0) in omega (arith, p .0 .1)
-
-clear-requires : tie.Need-clear-requires
-clear-requires c κs =
+clear-from-requires : tie.Need-clear-from-requires
+clear-from-requires c κs =
     let p = c .before .before .before .before .before .before .before .before .pre in
     let r = room (p .0 .0) in
-    omega (arith, c .before .before .before .sweep .ensures .size, p .0 .1)
+    (c .before .before .before .sweep .ensures .size, omega (arith, p .0 .1))
 
 returns : tie.Need-returns
 returns c =
     let p = c .before .before .before .before .before .before .before .before .before .before .before .pre in
     let g = c .before .before .before .before .before .before .sweep .ensures in
-    (tidied (p .0 .0) (p .0 .1) g (c .before .before .clear .ensures), g .words)
+    (tidied (p .0 .0) (p .0 .1) g (c .before .before .clear-from .ensures), g .words)
 
 pub tidy-spec : {M : Type 1} → statement M
-tidy-spec = tie.close (tie.spec (λ c κs. search needs) mul-clear clear-requires (λ c. search needs) returns)
+tidy-spec = tie.close (tie.spec (λ c κs. search needs) clear-from-requires (λ c. search needs) returns)

@@ -1,0 +1,145 @@
+-- Rule 12 of one node, its parent left aside, from what the code reads of its record. Assumes nothing.
+use Prim.Native.Nat.{ℕ}
+use mathlib.Core.Path.{_≡_, refl, sym, ap, _∙_}
+use mathlib.Core.Bool.{Bool, true, false, _&&_, _||_, not, Bool·beq}
+use mathlib.Core.List.{List, [], _∷_}
+use lib.Dec.{eqb}
+use borrow.Author.Tests.{ne-eqb}
+use Rattle.actions.specs.Sets.{ActionSet}
+use Rattle.spec_policy.specs.Bytes.{Bytes}
+use Rattle.spec_policy.specs.Lists.{among}
+use Rattle.spec_policy.specs.Steps.{Step}
+use Rattle.spec_policy.specs.Tree.{Way, Join, Tree, leaf, trivial, unsatisfiable, node, numberOf}
+use Rattle.spec_turns.specs.Status.{statusOf, isRunning}
+use Rattle.spec_turns.specs.Saved.{statusAt, droppedWith, isRunningAt, statuses, undecided, bare, waitsAt, fitsUnder}
+use Rattle.call_fits.specs.Alone.{fitsAlone}
+use Rattle.call_fits.proofs.StatusLaws.{or-three}
+use Rattle.spec_turns.proofs.StatusLaws.{running-one}
+
+-- ---- a node and its parent
+
+same-as : (b : Bool) → Bool·beq b b ≡ true
+same-as true = refl
+same-as false = refl
+
+module _ (bs : Bytes) where
+  -- not dropped with its parent, or dropped without
+  apart : (gone : Bool) (t : Tree) → Bool·beq (eqb (statusAt bs (numberOf t)) 6) gone ≡ false → fitsUnder gone t bs ≡ false
+  unfolding fitsUnder numberOf droppedWith
+  apart gone (leaf i s c code) e = rw e
+  apart gone (trivial i) e = rw e
+  apart gone (unsatisfiable i) e = rw e
+  apart gone (node w j i l r) e = rw e
+
+  -- a node fits under a parent where it fits by itself and is dropped with the parent
+  pub under : (gone : Bool) (t : Tree) → fitsUnder gone t bs ≡ (Bool·beq (eqb (statusAt bs (numberOf t)) 6) gone && fitsAlone t bs)
+  unfolding fitsAlone
+  under gone t = go (eqb (statusAt bs (numberOf t)) 6) gone refl
+    where
+      go : (d g : Bool) → eqb (statusAt bs (numberOf t)) 6 ≡ d → fitsUnder g t bs ≡ (Bool·beq (eqb (statusAt bs (numberOf t)) 6) g && fitsAlone t bs)
+      go true true e = rw e
+      go false false e = rw e
+      go true false e = apart false t (rw e) ∙ rw e
+      go false true e = apart true t (rw e) ∙ rw e
+
+-- ---- a leaf
+
+module _ (bs : Bytes) (i : ℕ) (set : ActionSet) (start : ℕ) (code : List Step) (s : ℕ) (e : s ≡ statusAt bs i) where
+  abbrev w : Bool
+  w = waitsAt code start bs i
+
+  -- by its status byte
+  leaf-by : (Bool·beq (eqb s 6) (eqb s 6) && among s (1 ∷ 2 ∷ 5 ∷ 6 ∷ []) && elim (isRunning (statusOf s)) [ true ↦ w | false ↦ bare bs i ])
+      ≡ fitsAlone (leaf i set start code) bs
+  unfolding fitsUnder fitsAlone numberOf droppedWith isRunningAt
+  leaf-by =
+      ap (λ (x : ℕ). Bool·beq (eqb x 6) (eqb x 6) && among x (1 ∷ 2 ∷ 5 ∷ 6 ∷ []) && elim (isRunning (statusOf x)) [ true ↦ w | false ↦ bare bs i ]) e
+
+  pub leaf-running : (b : Bool) → s ≡ 1 → b ≡ w → b ≡ fitsAlone (leaf i set start code) bs
+  unfolding among statusOf isRunning
+  leaf-running b h f =
+      f
+      ∙ ap (λ (x : ℕ). Bool·beq (eqb x 6) (eqb x 6) && among x (1 ∷ 2 ∷ 5 ∷ 6 ∷ []) && elim (isRunning (statusOf x)) [ true ↦ w | false ↦ bare bs i ]) (sym h)
+      ∙ leaf-by
+
+  pub leaf-over : (b : Bool) → (s ≡ 1 → ⊥) → b ≡ bare bs i → ((eqb s 2 || eqb s 5 || eqb s 6) && b) ≡ fitsAlone (leaf i set start code) bs
+  unfolding among
+  leaf-over b h f =
+      let r : isRunning (statusOf s) ≡ false = sym (running-one s) ∙ ne-eqb s 1 h in
+      let o : fitsAlone (leaf i set start code) bs ≡ ((eqb s 2 || (eqb s 5 || (eqb s 6 || false))) && bare bs i) =
+      sym (rw (same-as (eqb s 6), ne-eqb s 1 h, r) at leaf-by) in
+      (λ k. or-three (eqb s 2) (eqb s 5) (eqb s 6) k && f k) ∙ sym o
+
+-- ---- a trivial or unsatisfiable node
+
+by-itself : (p q b : Bool) → ((p || q) && b) ≡ (Bool·beq q q && (p || (q || false)) && b)
+by-itself true true b = refl
+by-itself true false b = refl
+by-itself false true b = refl
+by-itself false false b = refl
+
+module _ (bs : Bytes) (i s : ℕ) (e : s ≡ statusAt bs i) (b : Bool) (f : b ≡ bare bs i) where
+  -- o is the status that is not the dropped one
+  constant-by : (o : ℕ) → ((eqb s o || eqb s 6) && b)
+      ≡ (Bool·beq (eqb (statusAt bs i) 6) (eqb (statusAt bs i) 6) && among (statusAt bs i) (o ∷ 6 ∷ []) && bare bs i)
+  unfolding among
+  constant-by o = (λ k. (eqb (e k) o || eqb (e k) 6) && f k) ∙ by-itself (eqb (statusAt bs i) o) (eqb (statusAt bs i) 6) (bare bs i)
+
+  pub trivial-alone : ((eqb s 2 || eqb s 6) && b) ≡ fitsAlone (trivial i) bs
+  unfolding fitsUnder fitsAlone numberOf droppedWith
+  trivial-alone = constant-by 2
+
+  pub unsatisfiable-alone : ((eqb s 5 || eqb s 6) && b) ≡ fitsAlone (unsatisfiable i) bs
+  unfolding fitsUnder fitsAlone numberOf droppedWith
+  unsatisfiable-alone = constant-by 5
+
+-- ---- a pair
+
+-- what a pair asks of its sides' status bytes
+abbrev sides : Join → Bool → ℕ → ℕ → Bool
+sides j running l r = (not running || undecided j (statusOf l) (statusOf r)) && Bool·beq (eqb l 6) (not running) && Bool·beq (eqb r 6) (not running)
+
+not-same : (b : Bool) → not b ≡ Bool·beq b false
+not-same true = refl
+not-same false = refl
+
+is-same : (b : Bool) → b ≡ Bool·beq b true
+is-same true = refl
+is-same false = refl
+
+pub sides-running : (j : Join) (running : Bool) (l r : ℕ) (u : Bool) → running ≡ true → u ≡ undecided j (statusOf l) (statusOf r)
+    → (u && not (eqb l 6) && not (eqb r 6)) ≡ sides j running l r
+sides-running j running l r u t e =
+    (λ k. e k && not-same (eqb l 6) k && not-same (eqb r 6) k) ∙ sym (ap (λ (b : Bool). sides j b l r) t)
+
+pub sides-over : (j : Join) (running : Bool) (l r : ℕ) → running ≡ false → (eqb l 6 && eqb r 6) ≡ sides j running l r
+sides-over j running l r t = (λ k. is-same (eqb l 6) k && is-same (eqb r 6) k) ∙ sym (ap (λ (b : Bool). sides j b l r) t)
+
+arranged : (e a b c l r x y : Bool) → e ≡ true → (a && b && (c && l && r) && x && y) ≡ (e && a && b && c && (l && x) && (r && y))
+arranged e a b c l r x y h = by a b c l r x y ∙ ap (λ (q : Bool). q && a && b && c && (l && x) && (r && y)) (sym h)
+  where
+    by : (a b c l r x y : Bool) → (a && b && (c && l && r) && x && y) ≡ (a && b && c && (l && x) && (r && y))
+    by false b c l r x y = refl
+    by true false c l r x y = refl
+    by true true false l r x y = refl
+    by true true true false r x y = refl
+    by true true true true true x y = refl
+    by true true true true false true y = refl
+    by true true true true false false y = refl
+
+module _ (bs : Bytes) (j : Join) (i left right s a b : ℕ) (es : s ≡ statusAt bs i) (ea : a ≡ statusAt bs left) (eb : b ≡ statusAt bs right) where
+  module _ (st ba si x y : Bool) (est : st ≡ among s (statuses j)) (eba : ba ≡ bare bs i) (esi : si ≡ sides j (eqb s 1) a b) where
+    pub pair-alone : (w : Way) (l r : Tree) → numberOf l ≡ left → numberOf r ≡ right → x ≡ fitsAlone l bs → y ≡ fitsAlone r bs
+        → (st && ba && si && x && y) ≡ fitsAlone (node w j i l r) bs
+    unfolding fitsUnder fitsAlone numberOf droppedWith isRunningAt
+    pair-alone w l r nl nr ex ey =
+        let la : a ≡ statusAt bs (numberOf l) = ea ∙ ap (statusAt bs) (sym nl) in
+        let rb : b ≡ statusAt bs (numberOf r) = eb ∙ ap (statusAt bs) (sym nr) in
+        let at : Bool = isRunning (statusOf (statusAt bs i)) in
+        let d : Bool = Bool·beq (eqb (statusAt bs i) 6) (eqb (statusAt bs i) 6) in
+        let u : Bool = not at || undecided j (statusOf (statusAt bs (numberOf l))) (statusOf (statusAt bs (numberOf r))) in
+        let run : eqb s 1 ≡ at = ap (λ (n : ℕ). eqb n 1) es ∙ running-one (statusAt bs i) in
+        (λ k. (est ∙ ap (λ (n : ℕ). among n (statuses j)) es) k && eba k && (esi ∙ λ h. sides j (run h) (la h) (rb h)) k && ex k && ey k)
+        ∙ arranged d (among (statusAt bs i) (statuses j)) (bare bs i) u (Bool·beq (eqb (statusAt bs (numberOf l)) 6) (not at))
+        (Bool·beq (eqb (statusAt bs (numberOf r)) 6) (not at)) (fitsAlone l bs) (fitsAlone r bs) (same-as (eqb (statusAt bs i) 6))
+        ∙ λ k. d && among (statusAt bs i) (statuses j) && bare bs i && u && sym (under bs (not at) l) k && sym (under bs (not at) r) k

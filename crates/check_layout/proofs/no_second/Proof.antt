@@ -1,0 +1,22 @@
+-- `no_second` meets its contract. Assumes nothing.
+use Prim.Native.Nat.{ℕ}
+use mathlib.Core.Path.{ap}
+use lib.Dec.{eqb}
+use Rattle.spec_policy.specs.Records.{rowAt}
+use Rattle.spec_check.specs.Layout.{noSecond}
+use borrow.Author.Needs.{needs}
+use Rattle.check_layout.proofs.no_second.Statement.{statement}
+use Rattle.check_layout.proofs.no_second.Tie as tie
+
+add-byte : tie.Need-add-byte
+add-byte c = search needs
+
+byte-requires : tie.Need-byte-requires
+byte-requires c κs = search needs
+
+returns : tie.Need-returns
+unfolding noSecond rowAt
+returns c = ap (λ (x : ℕ). eqb x 0) (c .byte .ensures)
+
+pub no-second-spec : {M : Type 1} → statement M
+no-second-spec = tie.close (tie.spec add-byte byte-requires returns)

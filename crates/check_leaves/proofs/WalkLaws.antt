@@ -1,0 +1,266 @@
+-- The walks through the leaves, node after node: what is found so far, and what is left. Assumes nothing.
+use Prim.Native.Nat.{ℕ, _+_, _*_, _-_, _≤_, _<_}
+use native.Mathlib.Omega.{arith}
+use mathlib.Core.Path.{_≡_, refl, sym, ap, _∙_, subst}
+use mathlib.Core.Bool.{Bool, true, false, _&&_, not}
+use mathlib.Core.List.{List, [], _∷_, map}
+use lib.Dec.{eqb}
+use lib.ListN.{length, getD, set, length-set}
+use lib.Seq.{getD-set-same, getD-set-other}
+use borrow.Author.Tests.{eqb-true, eqb-false}
+use types.Run.{OneOf, miss}
+use denote.Enum.Declared.{tagOf}
+use Rattle.actions.specs.Sets.{ActionSet}
+use Rattle.actions.proofs.Tests.{true-not-false, and-assoc, and-true}
+use Rattle.spec_policy.specs.Bytes.{Bytes}
+use Rattle.spec_policy.specs.Lists.{summed, every}
+use Rattle.spec_policy.specs.Records.{mostNodes, Node, nodeAt, nodePlace, nodeCount, nodes, rows}
+use Rattle.spec_policy.specs.Steps.{Step}
+use Rattle.spec_policy.specs.Tree.{aLeaf, aTrivial, anUnsatisfiable, noNode, NodeKind, nodeKind, owned, firstStep, noPlace, places}
+use Rattle.spec_policy.proofs.NodeLaws.{first-none, first-over}
+use Rattle.file_records.specs.Kinds.{kindOf}
+use Rattle.file_records.specs.Code.{codeAt}
+use Rattle.file_records.specs.declared.Kind.{Kind}
+use Rattle.file_records.specs.declared.Kind.the-variants.{Leaf, Trivial, Unsatisfiable, Pair, Unknown}
+use Rattle.file_records.proofs.Kind.{the-type}
+use Rattle.check_layout.specs.Frame.{Framed}
+use Rattle.check_layout.specs.Fits.{nodesFit, rowsFit, ruleOr4}
+use Rattle.check_layout.proofs.Frame.{all-rows}
+use Rattle.check_layout.proofs.Rows.{rows-none, rows-split}
+use Rattle.spec_check.specs.Layout.{rowFits}
+use Rattle.spec_check.specs.Leaves.{everyLeaf}
+use Rattle.spec_check.specs.Targets.{targetsFit}
+use Rattle.spec_check.specs.Modes.{broken7}
+use Rattle.spec_check.specs.Possible.{allTaken, broken8}
+use Rattle.spec_check.specs.Interference.{leafEffects}
+use Rattle.spec_check.proofs.Numbers.{node-read}
+use Rattle.check_leaf.specs.declared.Walked.{Walked}
+use Rattle.check_leaf.specs.Leaf.{LeafFound}
+use Rattle.check_leaves.specs.Leaves.{nodePasses, modesOf, insertsIn, NodeKept, NodeFound, Held, lowest, LeavesFound}
+use Rattle.check_leaves.proofs.LeafLaws.{counted, answerOf, passes-by, leavesFrom, leaves-whole, leaves-over, steps-in, rest-here, code-is}
+
+-- ---- one node
+
+module _ (file : Bytes) (at count : ℕ) (x : Node) (w : Walked) where
+  abbrev code : List Step
+  code = codeAt file at count
+
+  pub leaf-found : (s : ActionSet) → aLeaf ≡ nodeKind (x .kind) → s ≡ x .set → LeafFound w s (rowsFit file at count) code
+      → NodeFound w x (rowsFit file at count) code
+  unfolding answerOf modesOf insertsIn
+  leaf-found s k e f =
+      let found = subst (λ (r : ActionSet). LeafFound w r (rowsFit file at count) code) e f in
+      let six : nodePasses targetsFit x code ≡ targetsFit (x .set) code = sym (passes-by targetsFit x code aLeaf k) in
+      record {
+        fields-broken = found .fields-broken;
+        targets-broken = λ g t. six ∙ found .targets-broken g t;
+        kept = λ g t. let kept = found .kept g t in record {
+          rows = kept .rows;
+          targets = six ∙ kept .targets;
+          modes = kept .modes ∙ passes-by modesOf x code aLeaf k;
+          taken = kept .taken ∙ passes-by allTaken x code aLeaf k;
+          effects = λ l. kept .effects;
+          inserts = λ l. kept .inserts;
+        };
+      }
+
+  -- a node that is no leaf, and so owns no step
+  pub other-found : (q : Kind) → w .fields ≡ true → w .targets ≡ true → w .modes ≡ true → w .taken ≡ true → count ≡ owned x
+      → kindOf q ≡ nodeKind (x .kind) → OneOf (1 ∷ 2 ∷ 3 ∷ 4 ∷ []) (tagOf the-type q) → NodeFound w x (rowsFit file at count) code
+  unfolding answerOf kindOf owned
+  other-found q four six seven eight own = go q
+    where
+      found : (j : NodeKind) → ((b : Bool) → answerOf j b ≡ true) → owned x ≡ 0 → j ≡ nodeKind (x .kind) → NodeFound w x (rowsFit file at count) code
+      found j a none u = record {
+        fields-broken = λ g. true-not-false four g;
+        targets-broken = λ g t. true-not-false six t;
+        kept = λ g t. record {
+          rows = ap (rowsFit file at) (own ∙ none) ∙ rows-none file at;
+          targets = sym (passes-by targetsFit x code j u) ∙ a (targetsFit (x .set) code);
+          modes = seven ∙ sym (a (modesOf (x .set) code)) ∙ passes-by modesOf x code j u;
+          taken = eight ∙ sym (a (allTaken (x .set) code)) ∙ passes-by allTaken x code j u;
+          effects = λ l. true-not-false (a false) (ap (λ (k : NodeKind). answerOf k false) (u ∙ l));
+          inserts = λ l. true-not-false (a false) (ap (λ (k : NodeKind). answerOf k false) (u ∙ l));
+        };
+      }
+
+      go : (q : Kind) → kindOf q ≡ nodeKind (x .kind) → OneOf (1 ∷ 2 ∷ 3 ∷ 4 ∷ []) (tagOf the-type q) → NodeFound w x (rowsFit file at count) code
+      go Leaf u o = absurd (miss (1 ∷ 2 ∷ 3 ∷ 4 ∷ []) 0 tt o)
+      go Trivial u o = found aTrivial (λ b. refl) (rw (sym u, owned)) u
+      go Unsatisfiable u o = found anUnsatisfiable (λ b. refl) (rw (sym u, owned)) u
+      go (Pair v j) u o = found _ (λ b. refl) (rw (sym u, owned)) u
+      go Unknown u o = found noNode (λ b. refl) (rw (sym u, owned)) u
+
+-- ---- node after node
+
+-- one leaf more
+held-more : (f : ActionSet → List Step → ℕ) (file : Bytes) (i v : ℕ) (xs : List ℕ) → i < mostNodes → Held f file i xs
+    → (nodeKind (getD (places file) i noPlace .node .kind) ≡ aLeaf → v ≡ f (getD (places file) i noPlace .node .set) (getD (places file) i noPlace .steps))
+    → Held f file (i + 1) (set xs i v)
+held-more f file i v xs few old new = record { room = length-set xs i v ∙ old .room; at = λ k h l. go k h l (eqb k i) refl }
+  where
+    go : (k : ℕ) → k < i + 1 → nodeKind (getD (places file) k noPlace .node .kind) ≡ aLeaf → (b : Bool) → eqb k i ≡ b
+        → getD (set xs i v) k 0 ≡ f (getD (places file) k noPlace .node .set) (getD (places file) k noPlace .steps)
+    go k h l true e =
+        let z : k ≡ i = eqb-true k i e in
+        ap (λ (j : ℕ). getD (set xs i v) j 0) z ∙ getD-set-same xs i v 0 (omega (arith, old .room))
+        ∙ new (subst (λ (j : ℕ). nodeKind (getD (places file) j noPlace .node .kind) ≡ aLeaf) z l)
+        ∙ ap (λ (j : ℕ). f (getD (places file) j noPlace .node .set) (getD (places file) j noPlace .steps)) (sym z)
+    go k h l false e =
+        let z : k ≡ i → ⊥ = eqb-false k i e in
+        getD-set-other xs i k v 0 z ∙ old .at k (omega (arith, z)) l
+
+module _ {file : Bytes} {n m : ℕ} (f : Framed file n m) (fits : nodesFit file ≡ true) (all : summed (map owned (nodes file)) ≡ m) where
+  -- what is found of the nodes before node i, whose steps begin at `at`
+  pub record Walking (i at : ℕ) (effs ins : List ℕ) (modes taken : Bool) : Type 0 where
+    pub below : i ≤ n
+    pub begins : at ≡ 6 + 16 * n + 12 * firstStep file i
+    pub room : (length effs ≡ mostNodes) × (length ins ≡ mostNodes)
+    pub fours : every rowFits (rows file) ≡ rowsFit file at (m - firstStep file i)
+    pub sixes : everyLeaf targetsFit (places file) ≡ leavesFrom targetsFit file i
+    pub sevens : everyLeaf modesOf (places file) ≡ (modes && leavesFrom modesOf file i)
+    pub eights : everyLeaf allTaken (places file) ≡ (taken && leavesFrom allTaken file i)
+    pub effects : Held leafEffects file i effs
+    pub inserts : Held insertsIn file i ins
+
+  none-held : (g : ActionSet → List Step → ℕ) (xs : List ℕ) → length xs ≡ mostNodes → Held g file 0 xs
+  none-held g xs l = record { room = l; at = λ k h. absurd (omega arith) }
+
+  pub walk-starts : (at : ℕ) (effs ins : List ℕ) → at ≡ 6 + 16 * n → length effs ≡ mostNodes → length ins ≡ mostNodes
+      → Walking 0 at effs ins true true
+  walk-starts at effs ins e l k =
+      let a : 6 + 16 * n ≡ at = sym e in
+      let c : m ≡ m - firstStep file 0 = omega (arith, first-none file) in
+      record {
+        below = omega arith;
+        begins = omega (arith, first-none file);
+        room = (l, k);
+        fours = all-rows f ∙ λ j. rowsFit file (a j) (c j);
+        sixes = leaves-whole targetsFit file;
+        sevens = leaves-whole modesOf file;
+        eights = leaves-whole allTaken file;
+        effects = none-held leafEffects effs l;
+        inserts = none-held insertsIn ins k;
+      }
+
+  -- the walk through node i, whose record begins at `place`, has given w
+  module _ (i at : ℕ) (effs ins : List ℕ) (modes taken : Bool) (s : Walking i at effs ins modes taken) (place count : ℕ) (h : i < n)
+      (p : place ≡ nodePlace i) (k : count ≡ nodeAt file place .count) (w : Walked)
+      (found : NodeFound w (nodeAt file place) (rowsFit file at count) (codeAt file at count)) where
+    next : firstStep file (i + 1) ≡ firstStep file i + count
+    next = counted f fits i place count h p k .next
+
+    rest : (g : ActionSet → List Step → Bool)
+        → leavesFrom g file i ≡ (nodePasses g (nodeAt file place) (codeAt file at count) && leavesFrom g file (i + 1))
+    rest = rest-here f fits all i place at count h p (s .begins) k
+
+    rows-rest : every rowFits (rows file) ≡ (rowsFit file at count && rowsFit file (at + 12 * count) (m - firstStep file (i + 1)))
+    rows-rest =
+        let z : m - firstStep file i ≡ count + (m - firstStep file (i + 1)) = omega (arith, next, steps-in f fits all i h) in
+        s .fours ∙ ap (rowsFit file at) z ∙ rows-split file at count (m - firstStep file (i + 1))
+
+    pub stops-at-4 : w .fields ≡ false → every rowFits (rows file) ≡ false
+    stops-at-4 bad = rows-rest ∙ ap (λ (b : Bool). b && rowsFit file (at + 12 * count) (m - firstStep file (i + 1))) (found .fields-broken bad)
+
+    pub stops-at-6 : w .fields ≡ true → w .targets ≡ false → everyLeaf targetsFit (places file) ≡ false
+    stops-at-6 good bad = s .sixes ∙ rest targetsFit ∙ ap (λ (b : Bool). b && leavesFrom targetsFit file (i + 1)) (found .targets-broken good bad)
+
+    module _ (four : w .fields ≡ true) (six : w .targets ≡ true) where
+      kept : NodeKept w (nodeAt file place) (rowsFit file at count) (codeAt file at count)
+      kept = found .kept four six
+
+      node-is : getD (places file) i noPlace .node ≡ nodeAt file place
+      node-is = node-read file (omega (arith, f .nodes)) p
+
+      leaf-here : nodeKind (getD (places file) i noPlace .node .kind) ≡ aLeaf → nodeKind (nodeAt file place .kind) ≡ aLeaf
+      leaf-here l = ap (λ (x : Node). nodeKind (x .kind)) (sym node-is) ∙ l
+
+      of-place : (g : ActionSet → List Step → ℕ)
+          → g (nodeAt file place .set) (codeAt file at count) ≡ g (getD (places file) i noPlace .node .set) (getD (places file) i noPlace .steps)
+      of-place g = let e = sym node-is in let c = code-is f fits all i place at count h p (s .begins) k in λ j. g (e j .set) (c j)
+
+      pub walk-goes : Walking (i + 1) (at + 12 * count) (set effs i (w .effects .bits)) (set ins i (w .inserts)) (modes && w .modes) (taken && w .taken)
+      walk-goes = record {
+        below = omega arith;
+        begins = omega (arith, s .begins, next);
+        room = (length-set effs i (w .effects .bits) ∙ s .room .0, length-set ins i (w .inserts) ∙ s .room .1);
+        fours = rows-rest ∙ ap (λ (b : Bool). b && rowsFit file (at + 12 * count) (m - firstStep file (i + 1))) (kept .rows);
+        sixes = s .sixes ∙ rest targetsFit ∙ ap (λ (b : Bool). b && leavesFrom targetsFit file (i + 1)) (kept .targets);
+        sevens = s .sevens ∙ ap (λ (b : Bool). modes && b) (rest modesOf ∙ ap (λ (b : Bool). b && leavesFrom modesOf file (i + 1)) (sym (kept .modes)))
+            ∙ and-assoc modes (w .modes) (leavesFrom modesOf file (i + 1));
+        eights = s .eights ∙ ap (λ (b : Bool). taken && b) (rest allTaken ∙ ap (λ (b : Bool). b && leavesFrom allTaken file (i + 1)) (sym (kept .taken)))
+            ∙ and-assoc taken (w .taken) (leavesFrom allTaken file (i + 1));
+        effects = held-more leafEffects file i (w .effects .bits) effs (omega (arith, f .nodes)) (s .effects) (λ l. kept .effects (leaf-here l) ∙ of-place leafEffects);
+        inserts = held-more insertsIn file i (w .inserts) ins (omega (arith, f .nodes)) (s .inserts) (λ l. kept .inserts (leaf-here l) ∙ of-place insertsIn);
+      }
+
+  -- ---- the end
+
+  module _ (effs ins : List ℕ) where
+    pub found-four : every rowFits (rows file) ≡ false → LeavesFound file n 4 effs ins
+    unfolding lowest
+    found-four bad = record {
+      is = sym (ap (λ (b : Bool). lowest (not b) (not (everyLeaf targetsFit (places file))) (broken7 file) (broken8 file)) bad);
+      effects = λ e. absurd (omega arith);
+      inserts = λ e. absurd (omega arith);
+    }
+
+    -- a leaf breaks rule 6, and the step records are tested, those of the leaves after it too
+    pub found-six : (rule : ℕ) → rule ≡ ruleOr4 (every rowFits (rows file)) 6 → everyLeaf targetsFit (places file) ≡ false → LeavesFound file n rule effs ins
+    unfolding lowest ruleOr4
+    found-six rule e bad =
+        record {
+          is = e ∙ six (every rowFits (rows file)) ∙ sym (ap (λ (b : Bool). lowest (not (every rowFits (rows file))) (not b) (broken7 file) (broken8 file)) bad);
+          effects = λ z. absurd (some (every rowFits (rows file)) (sym e ∙ z));
+          inserts = λ z. absurd (some (every rowFits (rows file)) (sym e ∙ z));
+        }
+      where
+        six : (b : Bool) → ruleOr4 b 6 ≡ lowest (not b) true (broken7 file) (broken8 file)
+        six true = refl
+        six false = refl
+
+        some : (b : Bool) → ruleOr4 b 6 ≡ 0 → ⊥
+        some true z = omega arith
+        some false z = omega arith
+
+  module _ (i at : ℕ) (effs ins : List ℕ) (modes taken : Bool) (s : Walking i at effs ins modes taken) (h : n ≤ i) where
+    over : nodeCount file ≤ i
+    over = omega (arith, f .nodes)
+
+    four-is : every rowFits (rows file) ≡ true
+    four-is = let z : m - firstStep file i ≡ 0 = omega (arith, first-over file i over) in s .fours ∙ ap (rowsFit file at) z ∙ rows-none file at
+
+    six-is : everyLeaf targetsFit (places file) ≡ true
+    six-is = s .sixes ∙ leaves-over targetsFit file i over
+
+    seven-is : broken7 file ≡ not modes
+    unfolding broken7 modesOf
+    seven-is = ap not (s .sevens ∙ ap (λ (b : Bool). modes && b) (leaves-over modesOf file i over) ∙ and-true modes)
+
+    eight-is : broken8 file ≡ not taken
+    unfolding broken8
+    eight-is = ap not (s .eights ∙ ap (λ (b : Bool). taken && b) (leaves-over allTaken file i over) ∙ and-true taken)
+
+    by : (modes′ taken′ : Bool) → modes ≡ modes′ → taken ≡ taken′
+        → lowest false false (not modes′) (not taken′) ≡ lowest (not (every rowFits (rows file))) (not (everyLeaf targetsFit (places file))) (broken7 file) (broken8 file)
+    by modes′ taken′ e g =
+        let a = four-is in let b = six-is in let c = seven-is ∙ ap not e in let d = eight-is ∙ ap not g in
+        sym (λ j. lowest (not (a j)) (not (b j)) (c j) (d j))
+
+    pub found-seven : modes ≡ false → LeavesFound file n 7 effs ins
+    unfolding lowest
+    found-seven e = record { is = by false taken e refl; effects = λ z. absurd (omega arith); inserts = λ z. absurd (omega arith) }
+
+    pub found-eight : modes ≡ true → taken ≡ false → LeavesFound file n 8 effs ins
+    unfolding lowest
+    found-eight e g = record { is = by true false e g; effects = λ z. absurd (omega arith); inserts = λ z. absurd (omega arith) }
+
+    pub found-none : modes ≡ true → taken ≡ true → LeavesFound file n 0 effs ins
+    unfolding lowest
+    found-none e g =
+        let z : i ≡ n = omega (arith, s .below) in
+        record {
+          is = by true true e g;
+          effects = λ o. subst (λ (j : ℕ). Held leafEffects file j effs) z (s .effects);
+          inserts = λ o. subst (λ (j : ℕ). Held insertsIn file j ins) z (s .inserts);
+        }

@@ -1,0 +1,149 @@
+-- `walk_leaves` meets its contract: the invariant is what is found of the nodes before node i, with what is left. Assumes nothing.
+use Prim.Native.Nat.{ℕ, _+_, _*_, _-_, _≤_}
+use native.Mathlib.Omega.{arith}
+use mathlib.Core.Path.{_≡_, sym, ap, _∙_}
+use mathlib.Core.Bool.{Bool, true}
+use mathlib.Core.List.{List, map}
+use lib.ListN.{length}
+use borrow.Author.Tests.{not-true, not-false}
+use Rattle.spec_policy.specs.Bytes.{Bytes}
+use Rattle.spec_policy.specs.Lists.{summed}
+use Rattle.spec_policy.specs.Records.{nodeSize, nodeAt, nodes}
+use Rattle.spec_policy.specs.Tree.{owned}
+use Rattle.check_layout.specs.Frame.{Framed}
+use Rattle.check_layout.proofs.Frame.{node-place, node-inside}
+use Rattle.check_layout.specs.Fits.{nodesFit}
+use Rattle.check_leaves.proofs.LeafLaws.{Counted, counted, inside-here}
+use Rattle.check_leaves.proofs.WalkLaws.{Walking, walk-starts, walk-goes, stops-at-4, stops-at-6, found-four, found-six, found-seven, found-eight, found-none}
+use Rattle.check_leaves.proofs.walk_leaves.Statement.{statement}
+use Rattle.check_leaves.proofs.walk_leaves.Tie as tie
+
+-- what is known of the file, and so of the loop's values
+pub record Known (policy : Bytes) (n m i at : ℕ) (effects inserts : List ℕ) (modes taken : Bool) : Type 0 where
+  pub frame : Framed policy n m
+  pub fits : nodesFit policy ≡ true
+  pub all : summed (map owned (nodes policy)) ≡ m
+  pub so-far : Walking frame fits all i at effects inserts modes taken
+
+abbrev Inv-loop : tie.InvT-loop
+Inv-loop policy n m effects₀ inserts₀ modes₀ taken₀ at₀ i₀ effects inserts modes taken at i = Known policy n m i at effects inserts modes taken
+
+abbrev μ-loop : tie.MeasureT-loop
+μ-loop policy n m effects₀ inserts₀ modes₀ taken₀ at₀ i₀ effects inserts modes taken at i = n - i
+
+loop-holds : tie.Need-loop-holds Inv-loop μ-loop
+loop-holds c =
+    let s = c .before .before .before .before in
+    let p = s .pre in
+    record {
+      frame = p .0;
+      fits = p .1 .0;
+      all = p .1 .1 .0;
+      so-far = walk-starts _ _ _ _ _ _ (c .node-place .ensures ∙ node-place (s .args .n)) (p .1 .1 .1 .0) (p .1 .1 .1 .1);
+    }
+
+-- the record and the steps of node i
+module _ (c : tie.After-node-place2 Inv-loop μ-loop) where
+  place-inside : c .node-place2 .result + nodeSize ≤ length (c .before .before .before .before .before .before .before .args .policy .now)
+  place-inside = omega (arith, c .node-place2 .ensures, node-inside (c .before .before .loop .inv .frame) (c .before .before .loop .i) (c .before .loop-test .taken))
+
+module _ (c : tie.After-node-count Inv-loop μ-loop) where
+  abbrev file : Bytes
+  file = c .before .before .before .before .before .before .before .before .args .policy .now
+
+  counted-here : Counted file (c .before .before .before .loop .i) (c .node-count .result)
+  counted-here =
+      let k = c .before .before .before .loop .inv in
+      counted (k .frame) (k .fits) _ _ _ (c .before .before .loop-test .taken) (c .before .node-place2 .ensures) (c .node-count .ensures)
+
+  owned-here : c .node-count .result ≡ owned (nodeAt file (c .before .node-place2 .result))
+  owned-here = counted-here .own ∙ ap (λ (q : ℕ). owned (nodeAt file q)) (sym (c .before .node-place2 .ensures))
+
+  steps-inside : c .before .before .before .loop .at + 12 * c .node-count .result ≤ length file
+  steps-inside =
+      let k = c .before .before .before .loop .inv in
+      inside-here (k .frame) (k .fits) (k .all) _ _ _ _ (c .before .before .loop-test .taken) (c .before .node-place2 .ensures) (k .so-far .begins) (c .node-count .ensures)
+
+returns : tie.Need-returns Inv-loop μ-loop
+returns c =
+    let k = c .before .before .before .before .before .before .loop .inv in
+    found-four (k .frame) (k .fits) (k .all) _ _ (stops-at-4 (k .frame) (k .fits) (k .all) _ _ _ _ _ _ (k .so-far) _ _ (c .before .before .before .before .before .loop-test .taken)
+    (c .before .before .before .before .node-place2 .ensures) (c .before .before .before .node-count .ensures) _ (c .before .before .walk-node .ensures) (not-true _ (c .if1 .taken)))
+
+returns-2 : tie.Need-returns-2 Inv-loop μ-loop
+returns-2 c =
+    let k = c .before .before .before .before .before .before .before .before .before .loop .inv in
+    found-six (k .frame) (k .fits) (k .all) _ _ _ (c .rule-or-4 .ensures) (stops-at-6 (k .frame) (k .fits) (k .all) _ _ _ _ _ _ (k .so-far) _ _ (c .before .before .before .before .before .before .before .before .loop-test .taken)
+    (c .before .before .before .before .before .before .before .node-place2 .ensures) (c .before .before .before .before .before .before .node-count .ensures) _ (c .before .before .before .before .before .walk-node .ensures) (not-false _ (c .before .before .before .if1 .left)) (not-true _ (c .before .if2 .taken)))
+
+loop-again : tie.Need-loop-again Inv-loop μ-loop
+loop-again c =
+    let k = c .before .before .before .before .before .before .before .before .before .before .loop .inv in
+    record {
+      frame = k .frame;
+      fits = k .fits;
+      all = k .all;
+      so-far = walk-goes (k .frame) (k .fits) (k .all) _ _ _ _ _ _ (k .so-far) _ _ (c .before .before .before .before .before .before .before .before .before .loop-test .taken)
+          (c .before .before .before .before .before .before .before .before .node-place2 .ensures) (c .before .before .before .before .before .before .before .node-count .ensures) _ (c .before .before .before .before .before .before .walk-node .ensures) (not-false _ (c .before .before .before .before .if1 .left)) (not-false _ (c .before .before .if2 .left));
+    }
+
+returns-3 : tie.Need-returns-3 Inv-loop μ-loop
+returns-3 c =
+    let k = c .before .before .loop .inv in
+    found-seven (k .frame) (k .fits) (k .all) _ _ _ _ _ _ (k .so-far) (c .before .loop-test .left) (not-true _ (c .if3 .taken))
+
+returns-4 : tie.Need-returns-4 Inv-loop μ-loop
+returns-4 c =
+    let k = c .before .before .before .loop .inv in
+    found-none (k .frame) (k .fits) (k .all) _ _ _ _ _ _ (k .so-far) (c .before .before .loop-test .left) (not-false _ (c .before .if3 .left)) (c .if4 .taken)
+
+returns-5 : tie.Need-returns-5 Inv-loop μ-loop
+returns-5 c =
+    let k = c .before .before .before .loop .inv in
+    found-eight (k .frame) (k .fits) (k .all) _ _ _ _ _ _ (k .so-far) (c .before .before .loop-test .left) (not-false _ (c .before .if3 .left)) (c .if4 .left)
+
+-- the lists are as long as they were
+module _ (c : tie.At-loop Inv-loop μ-loop) where
+  as-long-effects : length (c .loop .effects) ≡ length (c .before .before .before .before .before .args .effects .now)
+  as-long-effects = c .loop .inv .so-far .room .0 ∙ sym (c .before .before .before .before .before .pre .1 .1 .1 .0)
+
+  as-long-inserts : length (c .loop .inserts) ≡ length (c .before .before .before .before .before .args .inserts .now)
+  as-long-inserts = c .loop .inv .so-far .room .1 ∙ sym (c .before .before .before .before .before .pre .1 .1 .1 .1)
+
+pub walk-leaves-spec : {M : Type 1} → statement M
+walk-leaves-spec =
+    tie.close
+    (tie.spec
+    Inv-loop
+    μ-loop
+    (λ c κs. let f = c .before .before .before .pre .0 in omega arith)
+    loop-holds
+    (λ c κs. let f = c .before .loop .inv .frame in let h = c .loop-test .taken in omega (arith, f .nodes))
+    (λ c κs. place-inside c)
+    (λ c. omega (arith, counted-here c .few))
+    (λ c κs. ((place-inside (c .before), steps-inside c, counted-here c .few), owned-here c))
+    (λ c. as-long-effects (c .before .before .before .before .before .before))
+    (λ c. as-long-inserts (c .before .before .before .before .before .before))
+    returns
+    (λ c κs. c .before .before .before .before .before .before .before .before .loop .inv .frame)
+    (λ c. as-long-effects (c .before .before .before .before .before .before .before .before .before))
+    (λ c. as-long-inserts (c .before .before .before .before .before .before .before .before .before))
+    returns-2
+    (λ c. omega arith)
+    (λ c. let k = c .before .before .before .before .before .before .before .before .before .before .loop .inv in let h = c .before .before .before .before .before .before .before .before .before .loop-test .taken in omega (arith, k .so-far .room .0, k .frame .nodes))
+    (λ c. omega arith)
+    (λ c. let k = c .before .before .before .before .before .before .before .before .before .before .loop .inv in let h = c .before .before .before .before .before .before .before .before .before .loop-test .taken in omega (arith, k .so-far .room .1, k .frame .nodes))
+    (λ c. omega (arith, counted-here (c .before .before .before .before .before .before .before) .few))
+    (λ c. omega (arith, steps-inside (c .before .before .before .before .before .before .before)))
+    (λ c. omega arith)
+    (λ c. omega arith)
+    loop-again
+    (λ c. as-long-effects (c .before .before))
+    (λ c. as-long-inserts (c .before .before))
+    returns-3
+    (λ c. as-long-effects (c .before .before .before))
+    (λ c. as-long-inserts (c .before .before .before))
+    returns-4
+    (λ c. as-long-effects (c .before .before .before))
+    (λ c. as-long-inserts (c .before .before .before))
+    returns-5)

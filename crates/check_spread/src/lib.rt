@@ -1,0 +1,76 @@
+// Rule 10, spread: one pass from the last node to the first, each node's children before it. A spread above 255 is kept as 256: a pair's
+// is at least its children's, so what is above 255 stays above it, and no sum or product of two kept numbers overflows.
+ghost use mathlib.Core.Path.{_≡_};
+ghost use mathlib.Core.Bool.{false};
+ghost use Prim.Native.Nat.{_+_, _≤_};
+ghost use lib.ListN.{length};
+ghost use Rattle.spec_policy.specs.Records.{nodeSize, nodeAt};
+ghost use Rattle.file_records.specs.Kinds.{wayOf};
+ghost use Rattle.spec_check.specs.Layout.{broken4};
+ghost use Rattle.spec_check.specs.Children.{broken5};
+ghost use Rattle.spec_check.specs.Targets.{broken6};
+ghost use Rattle.spec_check.specs.Spread.{spreadOf, broken10};
+ghost use Rattle.check_layout.specs.Frame.{Framed};
+ghost use Rattle.check_leaves.specs.Leaves.{insertsIn, Held};
+ghost use Rattle.check_spread.specs.Spreads.{cap, cappedNode, Kept};
+use file_records::Kind;
+use file_records::MOST_NODES;
+use file_records::Way;
+use file_records::node_kind;
+use file_records::node_left;
+use file_records::node_place;
+use file_records::node_right;
+
+// The greatest spread that rule 10 lets pass, and what stands for any greater.
+const WIDEST: u32 = 255;
+
+const TOO_WIDE: u32 = 256;
+
+fn pair_spread(way: Way, left: u32, right: u32) -> u32
+    requires { ⌜ (left ≤ 256) × (right ≤ 256) ⌝ }
+    ensures { λ r. ⌜ r ≡ cap (spreadOf (wayOf way) left right) ⌝ }
+{
+    let spread = match way {
+        Way::Parallel => left + right,
+        Way::Sequential => (1 + left) * (1 + right) - 1,
+    };
+    if spread <= WIDEST { spread } else { TOO_WIDE }
+}
+
+// The node whose record begins at `place`; `inserts` is the number of its ins steps, if it is a leaf.
+fn node_spread(policy: &[u8], place: usize, inserts: u32, caps: &[u32]) -> u32
+    requires { ⌜ place + nodeSize ≤ length (now policy) ⌝ }
+    requires { ⌜ Kept (nodeAt (now policy) place) (now caps) ⌝ }
+    ensures { λ r. ⌜ r ≡ cappedNode (nodeAt (now (policy .entry)) place) inserts (now (caps .entry)) ⌝ }
+{
+    let kind = node_kind(policy, place);
+    match kind {
+        Kind::Leaf => inserts,
+        Kind::Trivial => 0,
+        Kind::Unsatisfiable => 0,
+        Kind::Pair(way, _) => {
+            let left = node_left(policy, place) as usize;
+            let right = node_right(policy, place) as usize;
+            pair_spread(way, caps[left], caps[right])
+        }
+        Kind::Unknown => 0,
+    }
+}
+
+// The walk through each leaf has counted its ins steps.
+pub fn broken10(policy: &[u8], n: usize, m: usize, inserts: &[u32]) -> bool
+    requires { ⌜ Framed (now policy) n m ⌝ }
+    requires { ⌜ broken4 (now policy) ≡ false ⌝ }
+    requires { ⌜ broken5 (now policy) ≡ false ⌝ }
+    requires { ⌜ broken6 (now policy) ≡ false ⌝ }
+    requires { ⌜ Held insertsIn (now policy) n (now inserts) ⌝ }
+    ensures { λ r. ⌜ r ≡ broken10 (now (policy .entry)) ⌝ }
+{
+    let mut caps = [0u32; MOST_NODES];
+    let mut i = n;
+    while i > 0 {
+        i -= 1;
+        caps[i] = node_spread(policy, node_place(i), inserts[i], &caps);
+    }
+    caps[0] == TOO_WIDE
+}

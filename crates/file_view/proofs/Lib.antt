@@ -1,0 +1,4 @@
+pub mod View
+mod Asked
+mod Getter
+mod StepGetter

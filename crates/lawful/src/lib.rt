@@ -1,1 +1,0 @@
-// Theorems only: the passes of the check find what the paper says of a leaf, and a file that passes holds a lawful tree.

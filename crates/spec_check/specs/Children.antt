@@ -1,0 +1,37 @@
+-- Rule 5: the tree rule. Assumes nothing.
+use Prim.Native.Nat.{ℕ}
+use mathlib.Core.Bool.{Bool, true, _&&_, _||_, not}
+use mathlib.Core.List.{List, [], _∷_}
+use lib.Dec.{eqb, ltb}
+use Rattle.spec_policy.specs.Bytes.{Bytes}
+use Rattle.spec_policy.specs.Lists.{occurs, everyAt}
+use Rattle.spec_policy.specs.Records.{Node, nodeCount, nodes}
+use Rattle.spec_policy.specs.Tree.{aLeaf, aTrivial, anUnsatisfiable, aPair, noNode, nodeKind}
+
+-- "A child's number is greater than its parent's and less than n".
+unfoldable pub later : ℕ → ℕ → Node → Bool
+later n i x = elim (nodeKind (x .kind)) [
+  | aPair w j ↦ ltb i (x .left) && ltb (x .left) n && ltb i (x .right) && ltb (x .right) n
+  | aLeaf ↦ true
+  | aTrivial ↦ true
+  | anUnsatisfiable ↦ true
+  | noNode ↦ true
+]
+
+unfoldable pub children : List Node → List ℕ
+children [] = []
+children (x ∷ xs) = elim (nodeKind (x .kind)) [
+  | aPair w j ↦ x .left ∷ x .right ∷ children xs
+  | aLeaf ↦ children xs
+  | aTrivial ↦ children xs
+  | anUnsatisfiable ↦ children xs
+  | noNode ↦ children xs
+]
+
+-- "every node but 0 is a child exactly once."
+unfoldable pub oneParent : List Node → ℕ → Bool
+oneParent xs i = eqb i 0 || eqb (occurs i (children xs)) 1
+
+-- 5: "the tree rule is broken"
+unfoldable pub broken5 : Bytes → Bool
+broken5 file = not (everyAt (later (nodeCount file)) 0 (nodes file)) || not (everyAt (λ i x. oneParent (nodes file) i) 0 (nodes file))

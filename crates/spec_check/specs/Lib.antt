@@ -1,0 +1,14 @@
+pub mod Layout
+pub mod Children
+pub mod Leaves
+pub mod Targets
+pub mod Modes
+pub mod Possible
+pub mod Interference
+pub mod Spread
+pub mod Check
+pub mod Passed
+pub mod Lawful
+pub mod Numbers
+pub mod Opened
+pub mod Examples

@@ -1,0 +1,10 @@
+-- The definitions of this crate that computing opens, by one name: a proof that computes with them says `unfolding opened`. Assumes nothing.
+use Rattle.spec_policy.specs.Lists.{listed, summed, one, occurs, among, every, everyAt}
+use Rattle.spec_policy.specs.Bytes.{spelt, number, spell, put}
+use Rattle.spec_policy.specs.Records.{lengthField, versionField, nodeCount, stepCount, nodeAt, rowAt, nodePlace, rowPlace, nodes, rows, nodeBytes, stepBytes}
+use Rattle.spec_policy.specs.Steps.{stepOf, targets, isNext, isIns}
+use Rattle.spec_policy.specs.Tree.{nodeKind, owned, placed, noPlace, places, numberOf, grown, tree, regulated}
+
+unfoldable pub opened : Unit {0}
+unfolding listed summed one occurs among every everyAt spelt number spell put lengthField versionField nodeCount stepCount nodeAt rowAt nodePlace rowPlace nodes rows nodeBytes stepBytes stepOf targets isNext isIns nodeKind owned placed noPlace places numberOf grown tree regulated
+opened = tt

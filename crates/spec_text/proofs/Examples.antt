@@ -1,0 +1,19 @@
+-- Every text and every record of the lists, by computation. Assumes nothing.
+use mathlib.Core.Path.{refl}
+use Rattle.actions.specs.Opened.{opened as sets}
+use Rattle.spec_policy.specs.Opened.{opened as files}
+use Rattle.spec_policy.specs.Parts.{built}
+use Rattle.spec_text.specs.Opened.{opened}
+use Rattle.spec_text.specs.Examples.{kept, AllKept, repeated, readAs, written, AllRead, beside, lone, untold, NoneTold}
+
+pub all-kept : AllKept
+unfolding AllKept kept built opened files sets
+all-kept = (refl, refl)
+
+pub all-read : AllRead
+unfolding AllRead written repeated readAs built opened files sets
+all-read = refl
+
+pub none-told : NoneTold
+unfolding NoneTold untold beside lone built opened files sets
+none-told = refl

@@ -1,0 +1,11 @@
+pub mod Status
+pub mod State
+pub mod Process
+pub mod Turn
+pub mod Events
+pub mod Saved
+pub mod Rest
+pub mod Entries
+pub mod Opened
+pub mod Worked
+pub mod Readings

@@ -1,0 +1,56 @@
+-- `word_end` meets its contract and ends. Assumes nothing.
+use Prim.Native.Nat.{_≤_, _<_, _-_}
+use native.Mathlib.Omega.{arith}
+use mathlib.Core.Path.{_≡_, sym, ap, _∙_}
+use lib.ListN.{length, drop}
+use lib.Seq.{slice}
+use borrow.Author.Needs.{needs}
+use Rattle.spec_text.specs.Words.{wordsFrom, words}
+use Rattle.text_words.specs.Scanned.{markNumber}
+use Rattle.text_words.proofs.ScanLaws.{lettered-none, lettered-more}
+use Rattle.text_words.proofs.word_end.Statement.{statement}
+use Rattle.text_words.proofs.word_end.Tie as tie
+
+abbrev Inv-loop : tie.InvT-loop
+Inv-loop line at i₀ i = (at ≤ i) × (i ≤ length line) × (words (drop at line) ≡ wordsFrom (slice at i line) (drop i line))
+
+abbrev μ-loop : tie.MeasureT-loop
+μ-loop line at i₀ i = length line - i
+
+loop-holds : tie.Need-loop-holds Inv-loop μ-loop
+loop-holds c = (omega arith, omega arith, lettered-none (c .before .args .line .now) (c .before .args .at))
+
+returns : tie.Need-returns Inv-loop μ-loop
+unfolding markNumber
+returns c =
+    let v = c .before .before .before .before .loop .inv in
+    record { after = v .0; inside = v .1; same = v .2; stops = λ l e. c .if1 .taken (c .before .mark .ensures ∙ ap markNumber e) }
+
+loop-again : tie.Need-loop-again Inv-loop μ-loop
+loop-again c =
+    let b = c .before .before .before .before in
+    let v = b .loop .inv in
+    let line = b .before .before .args .line .now in
+    let at = b .before .before .args .at in
+    let l : b .loop .i < length line = omega arith in
+    (omega arith, omega arith, lettered-more line at (b .loop .i) (v .0) l (v .2) (sym (c .before .mark .ensures) ∙ c .if1 .left))
+
+returns-2 : tie.Need-returns-2 Inv-loop μ-loop
+returns-2 c =
+    let v = c .before .loop .inv in
+    record { after = v .0; inside = v .1; same = v .2; stops = λ l e. omega arith }
+
+pub word-end-spec : {M : Type 1} → statement M
+word-end-spec =
+    tie.close
+    (tie.spec
+    Inv-loop
+    μ-loop
+    loop-holds
+    (λ c. search needs)
+    (λ c κs. search needs)
+    returns
+    (λ c. search needs)
+    (λ c. search needs)
+    loop-again
+    returns-2)

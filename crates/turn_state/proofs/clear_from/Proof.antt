@@ -1,0 +1,36 @@
+-- `clear_from` meets its contract. The invariant: the bytes from the node's record on and below the loop's place are zeros. Assumes nothing.
+use Prim.Native.Nat.{_*_, _-_}
+use native.Mathlib.Omega.{arith}
+use lib.ListN.{length}
+use Rattle.spec_turns.specs.Saved.{cellSize, cellPlace}
+use Rattle.turn_state.proofs.ZeroLaws.{Cleared, cleared-none, cleared-more, cleared-all}
+use Rattle.turn_state.proofs.clear_from.Statement.{statement}
+use Rattle.turn_state.proofs.clear_from.Tie as tie
+
+abbrev Inv-loop : tie.InvT-loop
+Inv-loop state₀ node at₀ state at = Cleared (cellSize * node) state₀ state at
+
+abbrev μ-loop : tie.MeasureT-loop
+μ-loop state₀ node at₀ state at = length state₀ - at
+
+loop-again : tie.Need-loop-again Inv-loop μ-loop
+loop-again c = let g = c .before .loop .inv in cleared-more g (omega (arith, g .size, c .loop-test .taken))
+
+returns : tie.Need-returns Inv-loop μ-loop
+unfolding cellPlace
+returns c = let g = c .before .loop .inv in cleared-all g (omega (arith, g .size, c .loop-test .left))
+
+pub clear-from-spec : {M : Type 1} → statement M
+clear-from-spec =
+    tie.close
+    (tie.spec
+    Inv-loop
+    μ-loop
+    (λ c. omega arith)
+    (λ c. cleared-none _ _ (omega arith))
+    (λ c. omega arith)
+    (λ c. omega arith)
+    (λ c. omega arith)
+    loop-again
+    (λ c. c .before .loop .inv .size)
+    returns)
