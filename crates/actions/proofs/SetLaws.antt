@@ -1,5 +1,5 @@
 -- The laws of action sets, each said by membership: what is in the sets that the operations build, that a set below 2 ^ 64 is known by
--- its members, and what the tests decide. Assumes nothing.
+-- its members, and what the tests decide.
 use Prim.Native.Nat.{ℕ, zero, suc, _+_, _-_, _*_, _/_, _%_, _^_, _<_, _≤_}
 use native.Mathlib.Nat.{mod-lt, div-add-mod', zero-lt-suc, zero-div, le-of-suc-le-suc, not-suc-le-zero, div-eq-of-lt, div-self, mul-div-cancel, mul-mod-left, pow-suc, div-one, lt-of-le-of-lt}
 use native.Mathlib.Numerals.{add-one, one-add}

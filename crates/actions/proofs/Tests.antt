@@ -1,4 +1,4 @@
--- Tests: what follows from a Boolean's being true or false. Assumes nothing.
+-- Tests: what follows from a Boolean's being true or false.
 use mathlib.Core.Path.{_≡_, refl, sym, _∙_, subst}
 use mathlib.Core.Bool.{Bool, true, false, not, _&&_, _||_}
 use mathlib.Core.Logic.{_⊎_, inl, inr}

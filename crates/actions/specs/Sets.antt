@@ -1,4 +1,4 @@
--- Action sets: 64 bits, bit a standing for action a, with the operations that document 01 names. Assumes nothing.
+-- Action sets: 64 bits, bit a standing for action a, with the operations that document 01 names.
 use Prim.Native.Nat.{ℕ, _/_, _%_, _^_}
 use mathlib.Core.Bool.{Bool, true, false, _&&_, not}
 use lib.Dec.{eqb, leb}

@@ -1,4 +1,4 @@
--- The verdict's event where it is written, and the end of a call. Assumes nothing.
+-- The verdict's event where it is written, and the end of a call.
 use Prim.Native.Nat.{ℕ, suc, _+_, _*_, _≤_}
 use native.Mathlib.Omega.{arith}
 use mathlib.Core.Path.{_≡_, refl, sym, ap, _∙_, subst}

@@ -1,4 +1,4 @@
--- What an answer says of the definition's reply, and how many events it has. Assumes nothing.
+-- What an answer says of the definition's reply, and how many events it has.
 use Prim.Native.Nat.{ℕ, _*_, _≤_}
 use native.Mathlib.Omega.{arith}
 use mathlib.Core.Path.{_≡_, sym, ap, ap₂, _∙_, subst}

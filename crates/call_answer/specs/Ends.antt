@@ -1,4 +1,4 @@
--- The verdict's event, and the call's end. Assumes nothing.
+-- The verdict's event, and the call's end.
 use Prim.Native.Nat.{ℕ, _+_, _*_}
 use mathlib.Core.Path.{_≡_}
 use mathlib.Core.Bool.{Bool, true, false}

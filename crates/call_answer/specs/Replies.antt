@@ -1,4 +1,4 @@
--- What the code's answer stands for: document 01's numbers for each of its cases. Assumes nothing.
+-- What the code's answer stands for: document 01's numbers for each of its cases.
 use mathlib.Core.Path.{_≡_}
 use Rattle.spec_policy.specs.Bytes.{Bytes}
 use Rattle.spec_turns.specs.Status.{statusNumber}

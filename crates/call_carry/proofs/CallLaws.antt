@@ -1,4 +1,4 @@
--- A call that no rule refuses: the memory that it begins with, and what is run of it and its end, joined into what the call gives. Assumes nothing.
+-- A call that no rule refuses: the memory that it begins with, and what is run of it and its end, joined into what the call gives.
 use Prim.Native.Nat.{ℕ, zero, suc, _≤_}
 use native.Mathlib.Omega.{arith}
 use mathlib.Core.Path.{_≡_, refl, sym, ap, ap₂, _∙_, subst}
@@ -26,7 +26,7 @@ use Rattle.laws_turns.proofs.NoChange.{saved-load, unasked, decided-quiet}
 use Rattle.turn_paths.specs.Memory.{Mem, held}
 use Rattle.turn_paths.proofs.Frames.{held-same}
 use Rattle.turn_memory.proofs.CellLaws.{view-same}
-use Rattle.turn_memory.specs.Words.{Words, wordCount, view}
+use Rattle.turn_memory.specs.Words.{Words, wordCount, memoryOf}
 use Rattle.turn_memory.specs.Told.{Tells}
 use Rattle.turn_memory.proofs.ToldLaws.{told-none, tells-none}
 use Rattle.turn_tables.specs.Tables.{Tabled, Kept}
@@ -68,8 +68,8 @@ module _ {policy : Bytes} (ok : Passed policy) (ws ws′ : Words) (kept : Kept w
   }
 
   -- the tables leave the cells
-  pub held-prepared : held (tree policy) (view ws′) ≡ held (tree policy) (view ws)
-  held-prepared = held-same (tree policy) (view ws) (view ws′) (λ i e. view-same ws ws′ i (λ l. kept .1 i (omega arith)))
+  pub held-prepared : held (tree policy) (memoryOf ws′) ≡ held (tree policy) (memoryOf ws)
+  held-prepared = held-same (tree policy) (memoryOf ws) (memoryOf ws′) (λ i e. view-same ws ws′ i (λ l. kept .1 i (omega arith)))
 
 -- ---- what is run
 

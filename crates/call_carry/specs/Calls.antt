@@ -1,4 +1,4 @@
--- What a call may ask: all that the entry points' refusals leave. Assumes nothing.
+-- What a call may ask: all that the entry points' refusals leave.
 use Prim.Native.Nat.{ℕ, _≤_}
 use mathlib.Core.Path.{_≡_}
 use mathlib.Core.Bool.{Bool, true, _&&_}

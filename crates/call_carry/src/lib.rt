@@ -10,7 +10,7 @@ ghost use Rattle.spec_turns.specs.Turn.{opening};
 ghost use Rattle.spec_turns.specs.Saved.{stateSize};
 ghost use Rattle.spec_turns.specs.Entries.{eventRoom, carried, carriedOut};
 ghost use Rattle.turn_paths.specs.Memory.{held};
-ghost use Rattle.turn_memory.specs.Words.{wordCount, view};
+ghost use Rattle.turn_memory.specs.Words.{wordCount, memoryOf};
 ghost use Rattle.turn_memory.specs.Phases.{phaseOf};
 ghost use Rattle.turn_memory.specs.Told.{Tells};
 ghost use Rattle.call_carry.specs.Calls.{Counted, Allowed, Runs};
@@ -21,20 +21,19 @@ use actions::ActionSet;
 use call_answer::Answer;
 use call_answer::Call;
 use call_answer::finish;
-use call_answer::say;
+use call_answer::put_verdict;
 use call_offer::play;
 use call_phase::run_phase;
 use file_records::nodes_of;
 use file_records::steps_of;
+use turn_memory::AFTER;
+use turn_memory::CLOSING;
+use turn_memory::WORDS;
 use turn_rest::awaken::awaken;
 use turn_rest::awaken::wake;
-use turn_sides::AFTER;
 use turn_state::is_running;
 use turn_state::saved_status;
 use turn_tables::prepare;
-
-// The closing phase, as a number: see turn_memory.
-const CLOSING: u8 = 65;
 
 // "At the root, an action not regulated is accepted with no change. So is any action once the root has ended.": no byte of the state moves.
 // `set` is what the root regulates, which the check has found.
@@ -52,7 +51,7 @@ pub fn carry_action(
     if is_running(status) & set.has(action) {
         return carry_out(policy, state, events, Call::Offer(action));
     }
-    say(events, 0, false, action);
+    put_verdict(events, 0, false, action);
     Answer::Answered(1, status)
 }
 
@@ -94,7 +93,7 @@ fn carry_open(
     requires { ⌜ Counted (now policy) nodes steps × Runs (now policy) (now state) (now events) Open ⌝ }
     ensures { λ r. ⌜ Gave (carriedOut (now (policy .entry)) opening (now (state .entry)) (now (events .entry))) r (now (state .exit)) (now (events .exit)) ⌝ }
 {
-    let mut mem = [0u64; 157];
+    let mut mem = [0u64; WORDS];
     awaken(policy, nodes, &mut mem);
     one_phase(policy, nodes, steps, &mut mem, state, events, AFTER)
 }
@@ -114,7 +113,7 @@ fn carry_close(
     if !is_running(status) {
         return Answer::Answered(0, status);
     }
-    let mut mem = [0u64; 157];
+    let mut mem = [0u64; WORDS];
     wake(state, nodes, &mut mem);
     one_phase(policy, nodes, steps, &mut mem, state, events, CLOSING)
 }
@@ -124,14 +123,14 @@ fn one_phase(
     policy: &[u8],
     nodes: usize,
     steps: usize,
-    mem: &mut [u64; 157],
+    mem: &mut [u64; WORDS],
     state: &mut [u8],
     events: &mut [u8],
     phase: u8,
 ) -> Answer
     requires { ⌜ (Passed (now policy) × Counted (now policy) nodes steps) × ((length (now mem) ≡ wordCount) × ((length (now state) ≡ stateSize) × (eventRoom ≤ length (now events)))) ⌝ }
     requires { ⌜ Tells (now mem) [] ⌝ }
-    ensures { λ r. ⌜ Gave (carried (tree (now (policy .entry))) (spec.phase (tree (now (policy .entry))) (phaseOf phase) (held (tree (now (policy .entry))) (view (now (mem .entry))))) (now (events .entry))) r (now (state .exit)) (now (events .exit)) ⌝ }
+    ensures { λ r. ⌜ Gave (carried (tree (now (policy .entry))) (spec.phase (tree (now (policy .entry))) (phaseOf phase) (held (tree (now (policy .entry))) (memoryOf (now (mem .entry))))) (now (events .entry))) r (now (state .exit)) (now (events .exit)) ⌝ }
 {
     prepare(policy, nodes, steps, mem);
     let ran = run_phase(policy, mem, events, 0, phase);
@@ -149,7 +148,7 @@ fn carry_offer(
     requires { ⌜ Counted (now policy) nodes steps × Runs (now policy) (now state) (now events) (Offer action) ⌝ }
     ensures { λ r. ⌜ Gave (carriedOut (now (policy .entry)) (spec.offer action) (now (state .entry)) (now (events .entry))) r (now (state .exit)) (now (events .exit)) ⌝ }
 {
-    let mut mem = [0u64; 157];
+    let mut mem = [0u64; WORDS];
     wake(state, nodes, &mut mem);
     prepare(policy, nodes, steps, &mut mem);
     let count = play(policy, &mut mem, events, action);

@@ -1,4 +1,4 @@
--- The nodes of a passed policy, from what the code reads of their records. Assumes nothing.
+-- The nodes of a passed policy, from what the code reads of their records.
 use Prim.Native.Nat.{ℕ, _+_, _-_, _*_, _≤_, _<_}
 use native.Mathlib.Omega.{arith}
 use mathlib.Core.Path.{_≡_, sym, ap, _∙_}
@@ -8,11 +8,11 @@ use lib.Dec.{eqb, leb}
 use lib.ListN.{length, getD, List·getD-eq-default}
 use Rattle.actions.proofs.Tests.{yes-of}
 use Rattle.spec_policy.specs.Bytes.{Bytes}
-use Rattle.spec_policy.specs.Records.{nodeSize, stepSize, Node, nodeCount, stepCount, nodeAt, rowAt, nodePlace, rowPlace}
+use Rattle.spec_policy.specs.Records.{nodeSize, stepSize, Node, nodeCount, stepCount, nodeAt, stepRecordAt, nodePlace, stepPlace}
 use Rattle.spec_policy.specs.Steps.{Step, halt, isNext}
-use Rattle.spec_policy.specs.Tree.{Way, Join, NodeKind, aLeaf, aTrivial, anUnsatisfiable, aPair, noNode, nodeKind, firstStep, places, leaf, trivial, unsatisfiable, node}
+use Rattle.spec_policy.specs.Tree.{Way, Join, NodeKind, aLeaf, aTrivial, anUnsatisfiable, aPair, noNode, nodeKind, firstStep, nodesWithSteps, leaf, trivial, unsatisfiable, node}
 use Rattle.spec_check.specs.Passed.{Passed}
-use Rattle.spec_check.specs.Numbers.{placeIn, shaped}
+use Rattle.spec_check.specs.Numbers.{nodeStepsIn, shaped}
 use Rattle.spec_check.proofs.Numbers.{ChildrenLater, node-read, tree-read, children-read}
 use Rattle.spec_check.proofs.Rows.{nodes-fit, all-owned}
 use Rattle.spec_policy.specs.Tree.{treeAt}
@@ -34,10 +34,10 @@ module _ (file : Bytes) (first count start : ℕ) (bs : Bytes) (i o : ℕ) (e : 
   unfolding waitsAt isNext
   waits-past h =
       ap (λ (k : Step). isNext k && leb (counterAt bs i) start)
-      (sym (ap (λ (n : ℕ). getD code n halt) (sym e) ∙ List·getD-eq-default code halt (omega (arith, code-length file (rowPlace file first) count))))
+      (sym (ap (λ (n : ℕ). getD code n halt) (sym e) ∙ List·getD-eq-default code halt (omega (arith, code-length file (stepPlace file first) count))))
 
-  pub waits-here : (k c : ℕ) → o < count → k ≡ rowAt file (nodePlace (nodeCount file) + stepSize * (first + o)) .kind → c ≡ counterAt bs i → (eqb k 1 && leb c start) ≡ waitsAt code start bs i
-  unfolding waitsAt rowAt
+  pub waits-here : (k c : ℕ) → o < count → k ≡ stepRecordAt file (nodePlace (nodeCount file) + stepSize * (first + o)) .kind → c ≡ counterAt bs i → (eqb k 1 && leb c start) ≡ waitsAt code start bs i
+  unfolding waitsAt stepRecordAt
   waits-here k c h f g =
       let n : eqb k 1 ≡ isNext (getD code (offsetAt bs i) halt) =
       ap (λ (x : ℕ). eqb x 1) f ∙ sym (next-kind file (nodePlace (nodeCount file) + stepSize * (first + o))) ∙ ap isNext (sym (code-number file first count o h) ∙ ap (λ (x : ℕ). getD code x halt) e) in
@@ -65,7 +65,7 @@ module _ {file : Bytes} (ok : Passed file) where
     pub in-view : (i ≤ 255) × (nodePlace i + nodeSize ≤ length file)
     in-view = (omega (arith, frame .few-nodes), omega (arith, node-inside frame i h))
 
-    shape : {k : NodeKind} → k ≡ nodeKind (x .kind) → treeAt file i ≡ shaped k i (placeIn (places file) i) (treeAt file (x .left)) (treeAt file (x .right))
+    shape : {k : NodeKind} → k ≡ nodeKind (x .kind) → treeAt file i ≡ shaped k i (nodeStepsIn (nodesWithSteps file) i) (treeAt file (x .left)) (treeAt file (x .right))
     shape e = tree-read file h p (ok .kept5) (sym e)
 
     pub is-trivial : aTrivial ≡ nodeKind (x .kind) → treeAt file i ≡ trivial i
@@ -95,19 +95,19 @@ module _ {file : Bytes} (ok : Passed file) where
 
       -- with its steps from number `first` on
       module _ (first : ℕ) (f : first ≡ firstStep file i) where
-        at-first : rowPlace file first ≡ 6 + 16 * nodeCount file + 12 * firstStep file i
-        unfolding rowPlace nodePlace
+        at-first : stepPlace file first ≡ 6 + 16 * nodeCount file + 12 * firstStep file i
+        unfolding stepPlace nodePlace
         at-first = omega (arith, f)
 
         pub steps-inside : StepsIn file first count
-        unfolding rowPlace
+        unfolding stepPlace
         steps-inside =
-            (omega (arith, frame .few-nodes), omega (arith, inside-here frame fits (all-owned file (ok .kept6)) i place (rowPlace file first) count h p at-first c))
+            (omega (arith, frame .few-nodes), omega (arith, inside-here frame fits (all-owned file (ok .kept6)) i place (stepPlace file first) count h p at-first c))
 
         pub is-leaf : (start : ℕ) → aLeaf ≡ nodeKind (x .kind) → start ≡ x .start → treeAt file i ≡ leaf i (x .set) start (codeFrom file first count)
         unfolding shaped
         is-leaf start e s =
-            let code : placeIn (places file) i .steps ≡ codeFrom file first count = sym (code-is frame fits (all-owned file (ok .kept6)) i place (rowPlace file first) count h p at-first c) in
+            let code : nodeStepsIn (nodesWithSteps file) i .steps ≡ codeFrom file first count = sym (code-is frame fits (all-owned file (ok .kept6)) i place (stepPlace file first) count h p at-first c) in
             let same = node-read file h p in shape e ∙ λ j. leaf i (same j .set) ((ap (λ (y : Node). y .start) same ∙ sym s) j) (code j)
 
   -- from where the steps of node i begin back to where those of the node before it do

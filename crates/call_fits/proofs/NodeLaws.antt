@@ -1,4 +1,4 @@
--- Rule 12 of one node, its parent left aside, from what the code reads of its record. Assumes nothing.
+-- Rule 12 of one node, its parent left aside, from what the code reads of its record.
 use Prim.Native.Nat.{ℕ}
 use mathlib.Core.Path.{_≡_, refl, sym, ap, _∙_}
 use mathlib.Core.Bool.{Bool, true, false, _&&_, _||_, not, Bool·beq}

@@ -1,4 +1,4 @@
--- One of several statuses, as the code writes it. Assumes nothing.
+-- One of several statuses, as the code writes it.
 use mathlib.Core.Path.{_≡_, refl}
 use mathlib.Core.Bool.{Bool, true, false, _||_}
 

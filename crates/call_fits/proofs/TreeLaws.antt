@@ -1,4 +1,4 @@
--- What is known of the nodes from i on, and of the whole tree. Assumes nothing.
+-- What is known of the nodes from i on, and of the whole tree.
 use Prim.Native.Nat.{ℕ, _-_, _≤_, _<_}
 use native.Mathlib.Omega.{arith}
 use mathlib.Core.Path.{_≡_, refl, sym, ap, _∙_, subst}

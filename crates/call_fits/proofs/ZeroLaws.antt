@@ -1,4 +1,4 @@
--- The two zeros of the first records. Assumes nothing.
+-- The two zeros of the first records.
 use Prim.Native.Nat.{ℕ, suc, _≤_}
 use native.Mathlib.Omega.{arith}
 use mathlib.Core.Path.{_≡_, ap}

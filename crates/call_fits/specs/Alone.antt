@@ -1,4 +1,4 @@
--- Rule 12 of a node and all beneath it, its parent left aside. Assumes nothing.
+-- Rule 12 of a node and all beneath it, its parent left aside.
 use mathlib.Core.Bool.{Bool}
 use lib.Dec.{eqb}
 use Rattle.spec_policy.specs.Bytes.{Bytes}

@@ -1,4 +1,4 @@
--- Events written one after another. Assumes nothing.
+-- Events written one after another.
 use Prim.Native.Nat.{ℕ, _+_, _*_, _≤_}
 use native.Mathlib.Omega.{arith}
 use mathlib.Core.Path.{_≡_, refl, sym, ap, _∙_}

@@ -1,4 +1,4 @@
--- The root's turn on an offered action: what its phases and the verdict give together, and that their events fit. Assumes nothing.
+-- The root's turn on an offered action: what its phases and the verdict give together, and that their events fit.
 use Prim.Native.Nat.{ℕ, _+_, _*_, _≤_}
 use native.Mathlib.Omega.{arith}
 use mathlib.Core.Path.{_≡_, refl, sym, ap, _∙_, subst}

@@ -7,17 +7,18 @@ ghost use Rattle.spec_policy.specs.Tree.{regulated, tree};
 ghost use Rattle.spec_turns.specs.Turn.{before, offer, isAsked, call};
 ghost use Rattle.spec_turns.specs.Entries.{eventRoom};
 ghost use Rattle.turn_paths.specs.Memory.{held};
-ghost use Rattle.turn_memory.specs.Words.{view};
+ghost use Rattle.turn_memory.specs.Words.{memoryOf};
 ghost use Rattle.call_phase.specs.Phased.{Ready, Played};
 use call_answer::judge;
 use call_phase::run_phase;
-use turn_sides::AFTER;
+use turn_memory::AFTER;
+use turn_memory::WORDS;
 
 // Gives the number of its events. The root is asked about the action: any other is answered without a turn.
-pub fn play(policy: &[u8], mem: &mut [u64; 157], events: &mut [u8], action: u8) -> usize
+pub fn play(policy: &[u8], mem: &mut [u64; WORDS], events: &mut [u8], action: u8) -> usize
     requires { ⌜ Ready (now policy) (now mem) × (eventRoom ≤ length (now events)) ⌝ }
-    requires { ⌜ isAsked (regulated (tree (now policy))) (before action) (held (tree (now policy)) (view (now mem))) ≡ true ⌝ }
-    ensures { λ r. ⌜ Played (tree (now (policy .entry))) (call (tree (now (policy .entry))) (offer action) (held (tree (now (policy .entry))) (view (now (mem .entry))))) (view (now (mem .exit))) (now (events .entry)) (now (events .exit)) r ⌝ }
+    requires { ⌜ isAsked (regulated (tree (now policy))) (before action) (held (tree (now policy)) (memoryOf (now mem))) ≡ true ⌝ }
+    ensures { λ r. ⌜ Played (tree (now (policy .entry))) (call (tree (now (policy .entry))) (offer action) (held (tree (now (policy .entry))) (memoryOf (now (mem .entry))))) (memoryOf (now (mem .exit))) (now (events .entry)) (now (events .exit)) r ⌝ }
     ensures { λ _. ⌜ Ready (now (policy .entry)) (now (mem .exit)) ⌝ }
 {
     let first = run_phase(policy, mem, events, 0, action);

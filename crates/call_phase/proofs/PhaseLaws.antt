@@ -1,4 +1,4 @@
--- The root's phase: where the root stands, and what its run, told as events, gives. Assumes nothing.
+-- The root's phase: where the root stands, and what its run, told as events, gives.
 use Prim.Native.Nat.{ℕ, zero, suc, _+_, _*_, _≤_}
 use native.Mathlib.Omega.{arith}
 use mathlib.Core.Path.{_≡_, sym, ap, _∙_, subst}
@@ -25,7 +25,7 @@ use Rattle.turn_paths.specs.Beneath.{Beneath, top}
 use Rattle.turn_paths.proofs.Frames.{held-same}
 use Rattle.turn_paths.proofs.PlaceLaws.{at-root, no-stop}
 use Rattle.turn_memory.proofs.CellLaws.{view-same}
-use Rattle.turn_memory.specs.Words.{Words, countPlace, wordCount, view}
+use Rattle.turn_memory.specs.Words.{Words, countPlace, wordCount, memoryOf}
 use Rattle.turn_memory.specs.Told.{Tells}
 use Rattle.turn_ends.specs.Ends.{ended}
 use Rattle.turn_tables.specs.Tables.{feederAt, asFeeder, risen, climb, pathAt}
@@ -78,16 +78,16 @@ turned-done (suc (suc n)) h = absurd (no-stop h)
 -- the root's turn was run, with these items
 record Went (t : Tree) (ph : Phase) (ws ws′ : Words) (u : Bool) : Type 0 where
   inserts : List Action
-  told : eventsOf t ph (held t (view ws)) ≡ map inserted inserts
+  told : eventsOf t ph (held t (memoryOf ws)) ≡ map inserted inserts
   tells : length inserts ≤ 255 → Tells ws [] → Tells ws′ inserts
-  ends : outcome (phase t ph (held t (view ws))) ≡ record { state = held t (view ws′); suppressed = u }
+  ends : outcome (phase t ph (held t (memoryOf ws))) ≡ record { state = held t (memoryOf ws′); suppressed = u }
   keeps : Keeps ws ws′
 
 went : {t : Tree} {ph : Phase} {ws ws′ : Words} (x : ℕ) → Turns [] t ph ws ws′ (ended x) → Went t ph ws ws′ (eqb x 1)
 unfolding eventsOf
 went {t} {ph} {ws} {ws′} x h =
-    let s : State = held t (view ws) in
-    let y : Out = record { state = held t (view ws′); suppressed = eqb x 1 } in
+    let s : State = held t (memoryOf ws) in
+    let y : Out = record { state = held t (memoryOf ws′); suppressed = eqb x 1 } in
     let e : ranOf t ph s ≡ first (h .items) (halts y) = at-root (turned-done x (h .turned)) in
     record {
       inserts = letsIn (h .items);
@@ -106,25 +106,25 @@ module _ {policy : Bytes} {ph : Phase} {ws ws₁ : Words} (x : ℕ) (ready : Rea
   abbrev es : List Action
   es = gone .inserts
 
-  counted : length (eventsOf (tree policy) ph (held (tree policy) (view ws))) ≡ length es
+  counted : length (eventsOf (tree policy) ph (held (tree policy) (memoryOf ws))) ≡ length es
   counted = ap (λ (l : List Event). length l) (gone .told) ∙ length-map es inserted
 
   tells : Tells ws₁ es
-  tells = gone .tells (omega (arith, counted, few-events (ready .passed) ph (held (tree policy) (view ws)))) (ready .none)
+  tells = gone .tells (omega (arith, counted, few-events (ready .passed) ph (held (tree policy) (memoryOf ws)))) (ready .none)
 
   -- what telling asks
-  pub can-tell : (room : Bytes) (count : ℕ) → 2 * (count + length (eventsOf (tree policy) ph (held (tree policy) (view ws)))) ≤ length room
+  pub can-tell : (room : Bytes) (count : ℕ) → 2 * (count + length (eventsOf (tree policy) ph (held (tree policy) (memoryOf ws)))) ≤ length room
       → ((length ws₁ ≡ wordCount) × (getD ws₁ countPlace 0 ≤ 255)) × (2 * (count + getD ws₁ countPlace 0) ≤ length room)
   can-tell room count h =
       let t = tells in
       ((gone .keeps .sized ∙ ready .sized, omega (arith, t .count, t .few)), omega (arith, t .count, counted))
 
   module _ {ws₂ : Words} (kept : Kept ws₁ ws₂) where
-    held-kept : held (tree policy) (view ws₂) ≡ held (tree policy) (view ws₁)
-    held-kept = held-same (tree policy) (view ws₁) (view ws₂) (λ i e. view-same ws₁ ws₂ i (λ l. kept .cells i l))
+    held-kept : held (tree policy) (memoryOf ws₂) ≡ held (tree policy) (memoryOf ws₁)
+    held-kept = held-same (tree policy) (memoryOf ws₁) (memoryOf ws₂) (λ i e. view-same ws₁ ws₂ i (λ l. kept .cells i l))
 
     module _ {room room′ : Bytes} {count r : ℕ} (sent : (bs : List Action) → Tells ws₁ bs → Sent bs ws₂ room room′ count r) where
-      pub phased : Phased (tree policy) ph (view ws) (view ws₂) room room′ count r (eqb x 1)
+      pub phased : Phased (tree policy) ph (memoryOf ws) (memoryOf ws₂) room room′ count r (eqb x 1)
       phased = let s = sent es tells in record {
         added = record {
           told = s .events ∙ ap (λ (l : List Event). put room (2 * count) (eventBytes l)) (sym (gone .told));

@@ -1,5 +1,5 @@
 -- A process and its run: the items one after another, and then the end. So a phase's run tells what was seen of it and how it ended.
--- Assumes nothing.
+--
 use mathlib.Core.Path.{_≡_, refl, sym, ap, ap₂, _∙_}
 use mathlib.Core.List.{List, [], _∷_, _++_, map}
 use Rattle.spec_policy.specs.Tree.{Tree}

@@ -1,4 +1,4 @@
--- One phase of the whole policy: what it asks of the call's memory, and what it gives. Assumes nothing.
+-- One phase of the whole policy: what it asks of the call's memory, and what it gives.
 use Prim.Native.Nat.{ℕ}
 use mathlib.Core.Path.{_≡_}
 use mathlib.Core.Bool.{Bool}

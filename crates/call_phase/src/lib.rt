@@ -3,10 +3,11 @@ ghost use Prim.Native.Nat.{_+_, _*_, _≤_};
 ghost use lib.ListN.{length};
 ghost use Rattle.spec_policy.specs.Tree.{tree};
 ghost use Rattle.turn_paths.specs.Memory.{held};
-ghost use Rattle.turn_memory.specs.Words.{view};
+ghost use Rattle.turn_memory.specs.Words.{memoryOf};
 ghost use Rattle.turn_memory.specs.Phases.{phaseOf};
 ghost use Rattle.call_phase.specs.Phased.{Ready, Phased, eventsOf};
 use turn_ends::SUPPRESSED;
+use turn_memory::WORDS;
 use turn_node::turn;
 use turn_told::tell;
 
@@ -21,14 +22,14 @@ pub struct Ran {
 // One phase of the whole policy. Its events are written after so many.
 pub fn run_phase(
     policy: &[u8],
-    mem: &mut [u64; 157],
+    mem: &mut [u64; WORDS],
     events: &mut [u8],
     count: usize,
     phase: u8,
 ) -> Ran
     requires { ⌜ Ready (now policy) (now mem) ⌝ }
-    requires { ⌜ 2 * (count + length (eventsOf (tree (now policy)) (phaseOf phase) (held (tree (now policy)) (view (now mem))))) ≤ length (now events) ⌝ }
-    ensures { λ r. ⌜ Phased (tree (now (policy .entry))) (phaseOf phase) (view (now (mem .entry))) (view (now (mem .exit))) (now (events .entry)) (now (events .exit)) count (r .events) (r .suppressed) ⌝ }
+    requires { ⌜ 2 * (count + length (eventsOf (tree (now policy)) (phaseOf phase) (held (tree (now policy)) (memoryOf (now mem))))) ≤ length (now events) ⌝ }
+    ensures { λ r. ⌜ Phased (tree (now (policy .entry))) (phaseOf phase) (memoryOf (now (mem .entry))) (memoryOf (now (mem .exit))) (now (events .entry)) (now (events .exit)) count (r .events) (r .suppressed) ⌝ }
     ensures { λ _. ⌜ Ready (now (policy .entry)) (now (mem .exit)) ⌝ }
 {
     let end = turn(policy, mem, ROOT, phase);

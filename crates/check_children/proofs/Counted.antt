@@ -1,4 +1,4 @@
--- The tree rule over counts: what a node adds to them, what is left to count, and the rule by the counts. Assumes nothing.
+-- The tree rule over counts: what a node adds to them, what is left to count, and the rule by the counts.
 use Prim.Native.Nat.{ℕ, zero, suc, _+_, _-_, _*_, _≤_, _<_}
 use native.Mathlib.Nat.{not-suc-le-zero}
 use native.Mathlib.Omega.{arith}

@@ -1,4 +1,4 @@
--- The two sets of a node, and its flag for rule 9, by its kind and from what its children have. Assumes nothing.
+-- The two sets of a node, and its flag for rule 9, by its kind and from what its children have.
 use Prim.Native.Nat.{ℕ, _+_, _≤_, _<_}
 use native.Mathlib.Omega.{arith}
 use mathlib.Core.Path.{_≡_, refl, sym, ap, ap₂, _∙_, subst}
@@ -14,9 +14,9 @@ use Rattle.actions.specs.Sets.{ActionSet, EMPTY, union, meets}
 use Rattle.spec_policy.specs.Bytes.{Bytes}
 use Rattle.spec_policy.specs.Steps.{Step}
 use Rattle.spec_policy.specs.Records.{mostNodes, Node, nodeAt, nodePlace, nodeCount}
-use Rattle.spec_policy.specs.Tree.{Way, parallel, sequential, nodeKind, Place, places, Tree, leaf, node, tree, regulated}
+use Rattle.spec_policy.specs.Tree.{Way, parallel, sequential, nodeKind, NodeSteps, nodesWithSteps, Tree, leaf, node, tree, regulated}
 use Rattle.spec_check.specs.Interference.{leafEffects, effects, interfere, apart, broken9}
-use Rattle.spec_check.specs.Numbers.{placeIn, shaped}
+use Rattle.spec_check.specs.Numbers.{nodeStepsIn, shaped}
 use Rattle.spec_check.proofs.Numbers.{ChildrenLater, node-read, kind-read, tree-read, children-read, tree-top}
 use Rattle.spec_policy.specs.Tree.{treeAt}
 use Rattle.file_records.specs.Kinds.{wayOf, joinOf, kindOf}
@@ -26,7 +26,7 @@ use Rattle.file_records.specs.declared.Kind.{Kind}
 use Rattle.file_records.specs.declared.Kind.the-variants.{Leaf, Trivial, Unsatisfiable, Pair, Unknown}
 use Rattle.file_records.proofs.Kind.{the-type}
 use Rattle.check_layout.specs.Frame.{Framed}
-use Rattle.check_leaves.specs.Leaves.{Held}
+use Rattle.check_leaves.specs.Leaves.{LeafValues}
 use Rattle.check_interference.specs.Sets.{Treed, Filled, RegulatedFrom, EffectsFrom, ApartFrom, isParallel, clash}
 
 -- ---- tests, one after the other
@@ -75,11 +75,11 @@ module _ {A : Type 0} {f : ℕ → A} {none : A} where
 
 module _ {f : ActionSet → List Step → ℕ} {file : Bytes} where
   -- the leaves before node i, by another name of i
-  pub held-as : {i j : ℕ} {xs : List ℕ} → i ≡ j → Held f file i xs → Held f file j xs
-  held-as {xs = xs} e s = subst (λ (k : ℕ). Held f file k xs) e s
+  pub held-as : {i j : ℕ} {xs : List ℕ} → i ≡ j → LeafValues f file i xs → LeafValues f file j xs
+  held-as {xs = xs} e s = subst (λ (k : ℕ). LeafValues f file k xs) e s
 
   -- node i's entry is written: those before it have what they had
-  pub held-less : {i : ℕ} {xs : List ℕ} (v : ℕ) → Held f file (i + 1) xs → Held f file i (set xs i v)
+  pub held-less : {i : ℕ} {xs : List ℕ} (v : ℕ) → LeafValues f file (i + 1) xs → LeafValues f file i (set xs i v)
   held-less {i} {xs} v s = record {
     room = simp length-set (s .room);
     at = λ k h e. getD-set-other xs i k v 0 (λ z. omega arith) ∙ s .at k (omega arith) e;
@@ -101,8 +101,8 @@ module _ {file : Bytes} {n m i place : ℕ} {q : Kind} (d : Read file n m i plac
   abbrev x : Node
   x = nodeAt file place
 
-  abbrev here : Place
-  here = placeIn (places file) i
+  abbrev here : NodeSteps
+  here = nodeStepsIn (nodesWithSteps file) i
 
   inside : i < nodeCount file
   inside = omega (arith, d .below, t .frame .nodes)
@@ -123,7 +123,7 @@ module _ {file : Bytes} {n m i place : ℕ} {q : Kind} (d : Read file n m i plac
     leaf-regulated e = e ∙ ap (λ (y : Node). y .set) (sym (node-read file inside (d .begins))) ∙ ap regulated leaf-tree
 
     -- as the walk through the leaf has found it
-    pub leaf-affects : {held : List ActionSet} → Held leafEffects file (i + 1) held → getD held i 0 ≡ effects (treeAt file i)
+    pub leaf-affects : {held : List ActionSet} → LeafValues leafEffects file (i + 1) held → getD held i 0 ≡ effects (treeAt file i)
     unfolding effects kindOf
     leaf-affects h = h .at i (omega arith) (kind-read file inside (d .begins) (kind-told told)) ∙ ap effects leaf-tree
 

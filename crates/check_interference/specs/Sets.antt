@@ -1,4 +1,4 @@
--- What rule 9 may assume of the file, and the two sets of each node as the code keeps them: a list for each. Assumes nothing.
+-- What rule 9 may assume of the file, and the two sets of each node as the code keeps them: a list for each.
 use Prim.Native.Nat.{ℕ, _≤_, _<_}
 use mathlib.Core.Path.{_≡_}
 use mathlib.Core.Bool.{Bool, true, false, _||_}

@@ -9,7 +9,7 @@ ghost use Rattle.spec_policy.specs.Tree.{regulated};
 ghost use Rattle.spec_check.specs.Interference.{leafEffects, effects, apart, broken9};
 ghost use Rattle.spec_policy.specs.Tree.{treeAt};
 ghost use Rattle.file_records.specs.Kinds.{wayOf};
-ghost use Rattle.check_leaves.specs.Leaves.{Held};
+ghost use Rattle.check_leaves.specs.Leaves.{LeafValues};
 ghost use Rattle.check_interference.specs.Sets.{Treed, RegulatedFrom, EffectsFrom, ApartFrom, isParallel, clash};
 use actions::ActionSet;
 use file_records::Kind;
@@ -40,7 +40,7 @@ fn union_at(sets: &[u64], left: usize, right: usize) -> ActionSet
 fn node_sets(policy: &[u8], n: usize, m: usize, i: usize, regs: &[u64], effs: &[u64]) -> NodeSets
     requires { ⌜ Treed (now policy) n m ⌝ }
     requires { ⌜ i < n ⌝ }
-    requires { ⌜ Held leafEffects (now policy) (i + 1) (now effs) ⌝ }
+    requires { ⌜ LeafValues leafEffects (now policy) (i + 1) (now effs) ⌝ }
     requires { ⌜ RegulatedFrom (now policy) (i + 1) n (now regs) ⌝ }
     requires { ⌜ EffectsFrom (now policy) (i + 1) n (now effs) ⌝ }
     ensures { λ r. ⌜ r .regulated .bits ≡ regulated (treeAt (now (policy .entry)) i) ⌝ }
@@ -136,7 +136,7 @@ pub fn broken9(
     effects: &mut [u64],
 ) -> bool
     requires { ⌜ Treed (now policy) n m ⌝ }
-    requires { ⌜ Held leafEffects (now policy) n (now effects) ⌝ }
+    requires { ⌜ LeafValues leafEffects (now policy) n (now effects) ⌝ }
     requires { ⌜ length (now regulated) ≡ mostNodes ⌝ }
     ensures { λ r. ⌜ r ≡ broken9 (now (policy .entry)) ⌝ }
     ensures { λ r. ⌜ RegulatedFrom (now (policy .entry)) 0 n (now (regulated .exit)) ⌝ }

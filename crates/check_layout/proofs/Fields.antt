@@ -1,5 +1,5 @@
 -- Rules 1 to 4 by the values that the code has read: a record's fields one by one, each with the equation that it was read by.
--- Assumes nothing.
+--
 use Prim.Native.Nat.{ℕ, zero, suc, _+_, _*_, _≤_, _<_}
 use native.Mathlib.Omega.{arith}
 use borrow.Author.Tests.{lt-ltb, le-ltb, ne-eqb, le-leb, lt-leb}
@@ -8,9 +8,9 @@ use mathlib.Core.Bool.{Bool, true, false, _&&_, _||_, not}
 use lib.Dec.{eqb, leb}
 use lib.ListN.{length}
 use Rattle.spec_policy.specs.Bytes.{Bytes, number}
-use Rattle.spec_policy.specs.Records.{Node, Row, lengthField, nodeCount, stepCount, rowAt, nodePlace, rowPlace}
+use Rattle.spec_policy.specs.Records.{Node, StepRecord, lengthField, nodeCount, stepCount, stepRecordAt, nodePlace, stepPlace}
 use Rattle.spec_policy.specs.Tree.{NodeKind, nodeKind}
-use Rattle.spec_check.specs.Layout.{broken1, broken3, nodeFits, noOperand, rowFits}
+use Rattle.spec_check.specs.Layout.{broken1, broken3, nodeFits, noOperand, stepFits}
 use Rattle.spec_policy.proofs.NumberLaws.{number-join}
 
 pub front-short : (file : Bytes) → length file < 6 → true ≡ broken1 file
@@ -23,7 +23,7 @@ front-read file n h p = ap₂ (λ (b : Bool) (x : ℕ). b || not (eqb x (length 
 
 pub counts-read : (file : Bytes) (n m : ℕ) → n ≡ nodeCount file → m ≡ stepCount file
     → (not (leb 1 n && leb n 31 && leb m 512) || not (eqb (length file) (6 + 16 * n + 12 * m))) ≡ broken3 file
-unfolding broken3 rowPlace nodePlace
+unfolding broken3 stepPlace nodePlace
 counts-read file n m p q =
     ap₂ (λ (x : ℕ) (y : ℕ). not (leb 1 x && leb x 31 && leb y 512) || not (eqb (length file) (6 + 16 * x + 12 * y))) p q
 
@@ -35,29 +35,29 @@ pub node-read : (x : Node) (k : NodeKind) (l r c s t : ℕ) → k ≡ nodeKind (
     → nodeFits k (nodeOf x l r c s t) ≡ nodeFits (nodeKind (x .kind)) x
 node-read x k l r c s t p q u v w y = λ i. nodeFits (p i) (nodeOf x (q i) (u i) (v i) (w i) (y i))
 
-abbrev pub rowOf : (kind action first second operand : ℕ) → Row
-rowOf k a f s o = record { kind = k; action = a; first = f; second = s; operand = o }
+abbrev pub stepRecordOf : (kind action first second operand : ℕ) → StepRecord
+stepRecordOf k a f s o = record { kind = k; action = a; first = f; second = s; operand = o }
 
-pub row-read : (file : Bytes) (at k a f s o : ℕ)
+pub read-step : (file : Bytes) (at k a f s o : ℕ)
     → k ≡ number file at 1 → a ≡ number file (at + 1) 1 → f ≡ number file (at + 2) 1 → s ≡ number file (at + 3) 1 → o ≡ number file (at + 4) 8
-    → rowOf k a f s o ≡ rowAt file at
-unfolding rowAt
-row-read file at k a f s o p q u v w = λ i. rowOf (p i) (q i) (u i) (v i) (w i)
+    → stepRecordOf k a f s o ≡ stepRecordAt file at
+unfolding stepRecordAt
+read-step file at k a f s o p q u v w = λ i. stepRecordOf (p i) (q i) (u i) (v i) (w i)
 
 -- no step has kind 0, or a kind above 8
-pub no-row : (k a f s o : ℕ) → (k ≡ 1 → ⊥) → (k ≡ 2 → ⊥) → (k ≡ 3 → ⊥) → (k ≡ 4 → ⊥) → (k ≡ 5 → ⊥) → (k ≡ 6 → ⊥) → (k ≡ 7 → ⊥) → (k ≡ 8 → ⊥)
-    → rowFits (rowOf k a f s o) ≡ false
-unfolding rowFits
-no-row zero _ _ _ _ p q r s t u v w = refl
-no-row (suc zero) _ _ _ _ p q r s t u v w = absurd (p refl)
-no-row (suc (suc zero)) _ _ _ _ p q r s t u v w = absurd (q refl)
-no-row (suc (suc (suc zero))) _ _ _ _ p q r s t u v w = absurd (r refl)
-no-row (suc (suc (suc (suc zero)))) _ _ _ _ p q r s t u v w = absurd (s refl)
-no-row (suc (suc (suc (suc (suc zero))))) _ _ _ _ p q r s t u v w = absurd (t refl)
-no-row (suc (suc (suc (suc (suc (suc zero)))))) _ _ _ _ p q r s t u v w = absurd (u refl)
-no-row (suc (suc (suc (suc (suc (suc (suc zero))))))) _ _ _ _ p q r s t u v w = absurd (v refl)
-no-row (suc (suc (suc (suc (suc (suc (suc (suc zero)))))))) _ _ _ _ p q r s t u v w = absurd (w refl)
-no-row (suc (suc (suc (suc (suc (suc (suc (suc (suc k))))))))) _ _ _ _ p q r s t u v w = refl
+pub no-step : (k a f s o : ℕ) → (k ≡ 1 → ⊥) → (k ≡ 2 → ⊥) → (k ≡ 3 → ⊥) → (k ≡ 4 → ⊥) → (k ≡ 5 → ⊥) → (k ≡ 6 → ⊥) → (k ≡ 7 → ⊥) → (k ≡ 8 → ⊥)
+    → stepFits (stepRecordOf k a f s o) ≡ false
+unfolding stepFits
+no-step zero _ _ _ _ p q r s t u v w = refl
+no-step (suc zero) _ _ _ _ p q r s t u v w = absurd (p refl)
+no-step (suc (suc zero)) _ _ _ _ p q r s t u v w = absurd (q refl)
+no-step (suc (suc (suc zero))) _ _ _ _ p q r s t u v w = absurd (r refl)
+no-step (suc (suc (suc (suc zero)))) _ _ _ _ p q r s t u v w = absurd (s refl)
+no-step (suc (suc (suc (suc (suc zero))))) _ _ _ _ p q r s t u v w = absurd (t refl)
+no-step (suc (suc (suc (suc (suc (suc zero)))))) _ _ _ _ p q r s t u v w = absurd (u refl)
+no-step (suc (suc (suc (suc (suc (suc (suc zero))))))) _ _ _ _ p q r s t u v w = absurd (v refl)
+no-step (suc (suc (suc (suc (suc (suc (suc (suc zero)))))))) _ _ _ _ p q r s t u v w = absurd (w refl)
+no-step (suc (suc (suc (suc (suc (suc (suc (suc (suc k))))))))) _ _ _ _ p q r s t u v w = refl
 
 -- ---- an operand that is read in two halves
 
@@ -75,15 +75,15 @@ high-alone zero low h = sym (le-leb (0 * 4294967296 + low) 4294967295 (omega ari
 high-alone (suc high) low h = not-zero (suc high) (omega arith) ∙ sym (lt-leb (suc high * 4294967296 + low) 4294967295 (omega arith))
 
 module _ (file : Bytes) (at high low : ℕ) (e : high ≡ number file (at + 4) 4) (f : low ≡ number file (at + 8) 4) where
-  pub both : at + 12 ≤ length file → high * 4294967296 + low ≡ rowAt file at .operand
-  unfolding rowAt
+  pub both : at + 12 ≤ length file → high * 4294967296 + low ≡ stepRecordAt file at .operand
+  unfolding stepRecordAt
   both h =
       let z : at + 8 ≡ at + 4 + 4 = omega arith in
       ap₂ (λ (x y : ℕ). x * 4294967296 + y) e (f ∙ ap (λ (i : ℕ). number file i 4) z) ∙ sym (number-join file (at + 4) 4 4 (omega arith))
 
-  pub no-operand-read : at + 12 ≤ length file → (eqb high 0 && eqb low 0) ≡ noOperand (rowAt file at)
+  pub no-operand-read : at + 12 ≤ length file → (eqb high 0 && eqb low 0) ≡ noOperand (stepRecordAt file at)
   unfolding noOperand
   no-operand-read h = halves high low ∙ ap (λ (x : ℕ). eqb x 0) (both h)
 
-  pub no-high-read : low < 4294967296 → at + 12 ≤ length file → eqb high 0 ≡ leb (rowAt file at .operand) 4_294_967_295
+  pub no-high-read : low < 4294967296 → at + 12 ≤ length file → eqb high 0 ≡ leb (stepRecordAt file at .operand) 4_294_967_295
   no-high-read l h = high-alone high low l ∙ ap (λ (x : ℕ). leb x 4294967295) (both h)

@@ -1,19 +1,19 @@
--- Rule 4 in its two parts, of the nodes and of step records. Assumes nothing.
+-- Rule 4 in its two parts, of the nodes and of step records.
 use Prim.Native.Nat.{ℕ, _+_, _*_}
 use mathlib.Core.Bool.{Bool, true, false}
 use Rattle.spec_policy.specs.Bytes.{Bytes}
 use Rattle.spec_policy.specs.Lists.{listed, every}
-use Rattle.spec_policy.specs.Records.{rowAt, nodes}
+use Rattle.spec_policy.specs.Records.{stepRecordAt, nodes}
 use Rattle.spec_policy.specs.Tree.{nodeKind}
-use Rattle.spec_check.specs.Layout.{nodeFits, rowFits}
+use Rattle.spec_check.specs.Layout.{nodeFits, stepFits}
 
 -- every node fits
 unfoldable pub nodesFit : Bytes → Bool
 nodesFit file = every (λ x. nodeFits (nodeKind (x .kind)) x) (nodes file)
 
 -- every step record fits that lies from a place of the file on, of so many
-unfoldable pub rowsFit : Bytes → ℕ → ℕ → Bool
-rowsFit file at count = every rowFits (listed (λ i. rowAt file (at + 12 * i)) 0 count)
+unfoldable pub stepsFit : Bytes → ℕ → ℕ → Bool
+stepsFit file at count = every stepFits (listed (λ i. stepRecordAt file (at + 12 * i)) 0 count)
 
 -- this rule where the step records fit, and else rule 4
 unfoldable pub ruleOr4 : Bool → ℕ → ℕ

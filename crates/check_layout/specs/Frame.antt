@@ -1,4 +1,4 @@
--- What the rules from 4 on may assume of the file. Assumes nothing.
+-- What the rules from 4 on may assume of the file.
 use Prim.Native.Nat.{ℕ, _+_, _*_, _≤_}
 use mathlib.Core.Path.{_≡_}
 use lib.ListN.{length}

@@ -4,13 +4,13 @@ ghost use mathlib.Core.Path.{_≡_};
 ghost use Prim.Native.Nat.{_+_, _*_, _≤_, _<_};
 ghost use lib.ListN.{length};
 ghost use Rattle.spec_policy.specs.Lists.{every};
-ghost use Rattle.spec_policy.specs.Records.{nodeSize, stepSize, mostNodes, nodeCount, nodeAt, rowAt, nodePlace, rows, frontSize};
+ghost use Rattle.spec_policy.specs.Records.{nodeSize, stepSize, mostNodes, nodeCount, nodeAt, stepRecordAt, nodePlace, stepRecords, frontSize};
 ghost use Rattle.spec_policy.specs.Steps.{stepOf};
 ghost use Rattle.spec_policy.specs.Tree.{nodeKind};
 ghost use Rattle.file_records.specs.Kinds.{stepValue};
-ghost use Rattle.spec_check.specs.Layout.{broken1, broken2, broken3, nodeFits, noAction, noFirst, noSecond, rowFits};
+ghost use Rattle.spec_check.specs.Layout.{broken1, broken2, broken3, nodeFits, noAction, noFirst, noSecond, stepFits};
 ghost use Rattle.check_layout.specs.Frame.{Framed};
-ghost use Rattle.check_layout.specs.Fits.{nodesFit, rowsFit, ruleOr4};
+ghost use Rattle.check_layout.specs.Fits.{nodesFit, stepsFit, ruleOr4};
 use actions::ActionSet;
 use actions::LAST_ACTION;
 use file_records::ACASE;
@@ -93,29 +93,29 @@ fn node_fits(policy: &[u8], at: usize) -> bool
 
 fn no_action(policy: &[u8], at: usize) -> bool
     requires { ⌜ at + stepSize ≤ length (now policy) ⌝ }
-    ensures { λ r. ⌜ r ≡ noAction (rowAt (now (policy .entry)) at) ⌝ }
+    ensures { λ r. ⌜ r ≡ noAction (stepRecordAt (now (policy .entry)) at) ⌝ }
 {
     byte(policy, at + 1) == 0
 }
 
 fn no_first(policy: &[u8], at: usize) -> bool
     requires { ⌜ at + stepSize ≤ length (now policy) ⌝ }
-    ensures { λ r. ⌜ r ≡ noFirst (rowAt (now (policy .entry)) at) ⌝ }
+    ensures { λ r. ⌜ r ≡ noFirst (stepRecordAt (now (policy .entry)) at) ⌝ }
 {
     byte(policy, at + 2) == 0
 }
 
 fn no_second(policy: &[u8], at: usize) -> bool
     requires { ⌜ at + stepSize ≤ length (now policy) ⌝ }
-    ensures { λ r. ⌜ r ≡ noSecond (rowAt (now (policy .entry)) at) ⌝ }
+    ensures { λ r. ⌜ r ≡ noSecond (stepRecordAt (now (policy .entry)) at) ⌝ }
 {
     byte(policy, at + 3) == 0
 }
 
 // The operand is read in two halves: all but two kinds ask that both are zero, and a spend asks it of the high one.
-fn row_fits(policy: &[u8], at: usize) -> bool
+fn step_fits(policy: &[u8], at: usize) -> bool
     requires { ⌜ at + stepSize ≤ length (now policy) ⌝ }
-    ensures { λ r. ⌜ r ≡ rowFits (rowAt (now (policy .entry)) at) ⌝ }
+    ensures { λ r. ⌜ r ≡ stepFits (stepRecordAt (now (policy .entry)) at) ⌝ }
 {
     let kind = byte(policy, at);
     let no_high = word32(policy, at + 4) == 0;
@@ -162,10 +162,10 @@ fn joined(high: u64, low: u64) -> u64
 }
 
 // The operand's halves are joined only for a step that works with them as one number.
-pub fn row_read(policy: &[u8], at: usize) -> Read
+pub fn read_step(policy: &[u8], at: usize) -> Read
     requires { ⌜ at + stepSize ≤ length (now policy) ⌝ }
-    ensures { λ r. ⌜ r .step ≡ stepValue (stepOf (rowAt (now (policy .entry)) at)) ⌝ }
-    ensures { λ r. ⌜ r .fits ≡ rowFits (rowAt (now (policy .entry)) at) ⌝ }
+    ensures { λ r. ⌜ r .step ≡ stepValue (stepOf (stepRecordAt (now (policy .entry)) at)) ⌝ }
+    ensures { λ r. ⌜ r .fits ≡ stepFits (stepRecordAt (now (policy .entry)) at) ⌝ }
 {
     let kind = byte(policy, at);
     let action = byte(policy, at + 1);
@@ -220,13 +220,13 @@ pub fn nodes_fit(policy: &[u8], n: usize) -> bool
 }
 
 // Rule 4 of m step records, which lie from `at` on.
-pub fn rows_fit(policy: &[u8], at: usize, m: usize) -> bool
+pub fn steps_fit(policy: &[u8], at: usize, m: usize) -> bool
     requires { ⌜ at + stepSize * m ≤ length (now policy) ⌝ }
-    ensures { λ r. ⌜ r ≡ rowsFit (now (policy .entry)) at m ⌝ }
+    ensures { λ r. ⌜ r ≡ stepsFit (now (policy .entry)) at m ⌝ }
 {
     let mut i = 0;
     while i < m {
-        if !row_fits(policy, at + STEP_SIZE * i) {
+        if !step_fits(policy, at + STEP_SIZE * i) {
             return false;
         }
         i += 1;
@@ -237,9 +237,9 @@ pub fn rows_fit(policy: &[u8], at: usize, m: usize) -> bool
 // A rule that is broken is answered only where no step record breaks rule 4, which has the lower number.
 pub fn rule_or_4(policy: &[u8], n: usize, m: usize, rule: u8) -> u8
     requires { ⌜ Framed (now policy) n m ⌝ }
-    ensures { λ r. ⌜ r ≡ ruleOr4 (every rowFits (rows (now (policy .entry)))) rule ⌝ }
+    ensures { λ r. ⌜ r ≡ ruleOr4 (every stepFits (stepRecords (now (policy .entry)))) rule ⌝ }
 {
-    if rows_fit(policy, node_place(n), m) {
+    if steps_fit(policy, node_place(n), m) {
         rule
     } else {
         4

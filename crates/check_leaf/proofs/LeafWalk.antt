@@ -1,5 +1,5 @@
 -- The walk through a leaf, step after step: what is found so far, and what is left to walk. What is asked of a step by the marks and sets
--- before it is what is asked of it by those at the end, as no step leads back but to a next. Assumes nothing.
+-- before it is what is asked of it by those at the end, as no step leads back but to a next.
 use Prim.Native.Nat.{ℕ, zero, suc, _+_, _*_, _-_, _≤_, _<_}
 use native.Mathlib.Omega.{arith}
 use mathlib.Core.Path.{_≡_, refl, sym, ap, ap₂, _∙_, subst}
@@ -14,14 +14,14 @@ use Rattle.actions.specs.Sets.{ActionSet, has, EMPTY, union}
 use Rattle.actions.proofs.Tests.{of-yes, and-assoc, and-true}
 use Rattle.spec_policy.specs.Bytes.{Bytes}
 use Rattle.spec_policy.specs.Lists.{one, listed, every, everyAt}
-use Rattle.spec_policy.specs.Records.{rowAt}
+use Rattle.spec_policy.specs.Records.{stepRecordAt}
 use Rattle.spec_policy.specs.Steps.{Step, halt, stepOf, targets, isNext, isIns}
 use Rattle.spec_policy.proofs.EveryLoop.{Left, all-left, one-less, one-fails, none-left}
 use Rattle.spec_policy.proofs.ListLaws.{listed-length, listed-at, listed-rest, listed-over, everyAt-rest}
 use Rattle.file_records.specs.Code.{codeAt}
 use Rattle.file_records.proofs.CodeLaws.{code-length, code-at}
 use Rattle.spec_check.specs.Targets.{targetFits, asksWithin, targetsFit}
-use Rattle.spec_check.specs.Layout.{rowFits}
+use Rattle.spec_check.specs.Layout.{stepFits}
 use Rattle.spec_check.specs.Modes.{Mode, Mark, marked, walked, marks, modeFits, modesFit, stepped}
 use Rattle.spec_check.specs.Possible.{passOn, passedOn, possible, branchesTaken, allTaken}
 use Rattle.spec_check.specs.Interference.{stepEffects, codeEffects, leafEffects}
@@ -33,7 +33,7 @@ use Rattle.check_modes.specs.Marks.{Agrees, NextsBefore, NextsAre, othersFit, n
 use Rattle.check_modes.proofs.Final.{walked-elsewhere, fits-by, modes-parts}
 use Rattle.check_possible.proofs.PossibleLaws.{pass-length, pass-take, passed-elsewhere, branches-alone, effects-by}
 use Rattle.actions.proofs.SetLaws.{has-empty, union-assoc, union-none, union-end}
-use Rattle.check_layout.specs.Fits.{rowsFit}
+use Rattle.check_layout.specs.Fits.{stepsFit}
 use Rattle.check_steps.specs.declared.Walk.{Walk}
 use Rattle.check_steps.specs.Met.{Stands, Went}
 use Rattle.check_steps.proofs.StepLaws.{nexts-on}
@@ -61,7 +61,7 @@ none-possible n h = go n 64 h
 
 module _ (file : Bytes) (at count : ℕ) where
   abbrev pub stepIn : ℕ → Step
-  stepIn o = stepOf (rowAt file (at + 12 * o))
+  stepIn o = stepOf (stepRecordAt file (at + 12 * o))
 
   abbrev pub code : List Step
   code = codeAt file at count
@@ -100,7 +100,7 @@ module _ (file : Bytes) (at count : ℕ) where
     -- what is found when the walk stands at o
     pub record Walking (o : ℕ) (w : Walk) (sets : List ActionSet) : Type 0 where
       pub below : o ≤ count
-      pub rows : Left rowFits (λ k. rowAt file (at + 12 * k)) count o
+      pub stepRecords : Left stepFits (λ k. stepRecordAt file (at + 12 * k)) count o
       pub fit : targetsFit r code ≡ fitFrom r file at count o
       pub ks : List Mark
       pub agrees : T (w .modes) → Agrees (w .marks) ks
@@ -118,7 +118,7 @@ module _ (file : Bytes) (at count : ℕ) where
     unfolding marks possible reaching othersFit allTaken leafEffects EMPTY
     walk-starts w sets b l e = record {
       below = omega arith;
-      rows = all-left rowFits (λ k. rowAt file (at + 12 * k)) count;
+      stepRecords = all-left stepFits (λ k. stepRecordAt file (at + 12 * k)) count;
       fit = fit-whole r file at count;
       ks = reaching 0 0;
       agrees = λ t. b .marks;
@@ -157,7 +157,7 @@ module _ (file : Bytes) (at count : ℕ) where
       stands-here = record { size = code-length file at count; here = code-at file at count o h; agrees = g .agrees; nexts = g .nexts }
 
       -- a step that keeps rules 4 and 6
-      module _ (w′ : Walk) (sets′ : List ActionSet) (row : rowFits (rowAt file (at + 12 * o)) ≡ true)
+      module _ (w′ : Walk) (sets′ : List ActionSet) (row : stepFits (stepRecordAt file (at + 12 * o)) ≡ true)
           (tested : (asksWithin r (stepIn o) && every (targetFits code o) (targets (stepIn o))) ≡ true) (went : Went r o (stepIn o) (g .ks) w w′ sets sets′) where
         abbrev p : ActionSet
         p = getD sets o EMPTY
@@ -217,7 +217,7 @@ module _ (file : Bytes) (at count : ℕ) where
         pub walk-goes : Walking (o + 1) w′ sets′
         walk-goes = record {
           below = omega arith;
-          rows = one-less rowFits (λ k. rowAt file (at + 12 * k)) count o h (g .rows) row;
+          stepRecords = one-less stepFits (λ k. stepRecordAt file (at + 12 * k)) count o h (g .stepRecords) row;
           fit = fit-on;
           ks = stepped o (stepIn o) (g .ks);
           agrees = went .marks;
@@ -238,9 +238,9 @@ module _ (file : Bytes) (at count : ℕ) where
       none-left-here : rest o ≡ []
       none-left-here = listed-over stepIn o count h
 
-      pub all-rows : rowsFit file at count ≡ true
-      unfolding rowsFit
-      all-rows = sym (none-left rowFits (λ k. rowAt file (at + 12 * k)) count o h (g .rows))
+      pub all-records : stepsFit file at count ≡ true
+      unfolding stepsFit
+      all-records = sym (none-left stepFits (λ k. stepRecordAt file (at + 12 * k)) count o h (g .stepRecords))
 
       pub all-marks : T (w .modes) → Agrees (w .marks) (marks code)
       unfolding walked
@@ -285,9 +285,9 @@ module _ (file : Bytes) (at count : ℕ) where
       all-inserts = sym (g .ins ∙ ap (λ (l : List Step). w .inserts + insCount l) none-left-here ∙ omega arith)
 
     -- a step that breaks rule 4, or rule 6
-    pub row-stops : (o : ℕ) (w : Walk) (sets : List ActionSet) → Walking o w sets → o < count → rowFits (rowAt file (at + 12 * o)) ≡ false → rowsFit file at count ≡ false
-    unfolding rowsFit
-    row-stops o w sets g h e = sym (one-fails rowFits (λ k. rowAt file (at + 12 * k)) count o h (g .rows) e)
+    pub row-stops : (o : ℕ) (w : Walk) (sets : List ActionSet) → Walking o w sets → o < count → stepFits (stepRecordAt file (at + 12 * o)) ≡ false → stepsFit file at count ≡ false
+    unfolding stepsFit
+    row-stops o w sets g h e = sym (one-fails stepFits (λ k. stepRecordAt file (at + 12 * k)) count o h (g .stepRecords) e)
 
     pub target-stops : (o : ℕ) (w : Walk) (sets : List ActionSet) → Walking o w sets → o < count
         → (asksWithin r (stepIn o) && every (targetFits code o) (targets (stepIn o))) ≡ false → targetsFit r code ≡ false

@@ -1,4 +1,4 @@
--- What the walk through a leaf finds. Assumes nothing.
+-- What the walk through a leaf finds.
 use mathlib.Core.Path.{_≡_}
 use mathlib.Core.Bool.{Bool, true, false}
 use mathlib.Core.List.{List}
@@ -15,8 +15,8 @@ use Rattle.spec_check.specs.Spread.{insCount}
 use Rattle.check_leaf.specs.declared.Walked.{Walked}
 
 -- Of a leaf with the set r that keeps rules 4 and 6: rules 7 and 8, the effect set and the number of ins steps.
-pub record LeafKept (w : Walked) (r : ActionSet) (rows-fit : Bool) (code : List Step) : Type 0 where
-  pub rows : rows-fit ≡ true
+pub record LeafKept (w : Walked) (r : ActionSet) (steps-fit : Bool) (code : List Step) : Type 0 where
+  pub stepRecords : steps-fit ≡ true
   pub targets : targetsFit r code ≡ true
   pub modes : w .modes ≡ modesFit code
   pub taken : w .taken ≡ allTaken r code
@@ -24,10 +24,10 @@ pub record LeafKept (w : Walked) (r : ActionSet) (rows-fit : Bool) (code : List 
   pub inserts : w .inserts ≡ insCount code
 
 -- The walk ends at a step that breaks rule 4 or rule 6, and tells one of the two: the rest of what it gives then says nothing of the leaf.
-pub record LeafFound (w : Walked) (r : ActionSet) (rows-fit : Bool) (code : List Step) : Type 0 where
-  pub fields-broken : w .fields ≡ false → rows-fit ≡ false
+pub record LeafFound (w : Walked) (r : ActionSet) (steps-fit : Bool) (code : List Step) : Type 0 where
+  pub fields-broken : w .fields ≡ false → steps-fit ≡ false
   pub targets-broken : w .fields ≡ true → w .targets ≡ false → targetsFit r code ≡ false
-  pub kept : w .fields ≡ true → w .targets ≡ true → LeafKept w r rows-fit code
+  pub kept : w .fields ≡ true → w .targets ≡ true → LeafKept w r steps-fit code
 
 -- a walk that has found nothing yet: offset 0 is reached idle
 pub record Begun (w : Walk) : Type 0 where

@@ -4,11 +4,11 @@ ghost use mathlib.Core.Bool.{false};
 ghost use Prim.Native.Nat.{_+_, _*_, _≤_};
 ghost use lib.ListN.{length};
 ghost use Rattle.file_records.specs.Code.{codeAt};
-ghost use Rattle.check_layout.specs.Fits.{rowsFit};
+ghost use Rattle.check_layout.specs.Fits.{stepsFit};
 ghost use Rattle.check_leaf.specs.Leaf.{LeafFound, Begun};
 ghost use Rattle.spec_policy.specs.Records.{mostLeafSteps, stepSize};
 use actions::ActionSet;
-use check_layout::row_read;
+use check_layout::read_step;
 use check_modes::first_mark;
 use check_modes::nexts_fit;
 use check_steps::Walk;
@@ -60,13 +60,13 @@ fn begun() -> Walk
 // A walk ends at a step that breaks rule 4 or rule 6. What it has found by then says nothing of the leaf, and so is not given.
 pub fn walk(policy: &[u8], at: usize, count: usize, set: ActionSet) -> Walked
     requires { ⌜ (at + stepSize * count ≤ length (now policy)) × (count ≤ mostLeafSteps) ⌝ }
-    ensures { λ r. ⌜ LeafFound r (set .bits) (rowsFit (now (policy .entry)) at count) (codeAt (now (policy .entry)) at count) ⌝ }
+    ensures { λ r. ⌜ LeafFound r (set .bits) (stepsFit (now (policy .entry)) at count) (codeAt (now (policy .entry)) at count) ⌝ }
 {
     let mut w = begun();
     let mut sets = [0u64; MOST_LEAF_STEPS];
     let mut o = 0;
     while o < count {
-        let row = row_read(policy, at + STEP_SIZE * o);
+        let row = read_step(policy, at + STEP_SIZE * o);
         if !row.fits {
             return ended(false);
         }

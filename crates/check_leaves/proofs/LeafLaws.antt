@@ -1,5 +1,5 @@
 -- The leaves in node order: where a leaf's steps lie, what rule 4 says of its count, and a test of every leaf, one node at a time.
--- Assumes nothing.
+--
 use Prim.Native.Nat.{ℕ, suc, _+_, _*_, _≤_, _<_}
 use native.Mathlib.Omega.{arith}
 use mathlib.Core.Path.{_≡_, refl, sym, ap, _∙_, subst}
@@ -13,14 +13,14 @@ use Rattle.actions.specs.Sets.{ActionSet}
 use Rattle.actions.proofs.Tests.{of-yes, and-left, and-right}
 use Rattle.spec_policy.specs.Bytes.{Bytes}
 use Rattle.spec_policy.specs.Lists.{summed}
-use Rattle.spec_policy.specs.Records.{Node, nodeAt, nodePlace, nodeCount, stepCount, nodes, rows}
+use Rattle.spec_policy.specs.Records.{Node, nodeAt, nodePlace, nodeCount, stepCount, nodes, stepRecords}
 use Rattle.spec_policy.specs.Steps.{Step, stepOf}
-use Rattle.spec_policy.specs.Tree.{NodeKind, aLeaf, aTrivial, anUnsatisfiable, aPair, noNode, nodeKind, owned, firstStep, Place, noPlace, placed, places}
+use Rattle.spec_policy.specs.Tree.{NodeKind, aLeaf, aTrivial, anUnsatisfiable, aPair, noNode, nodeKind, stepsOwned, firstStep, NodeSteps, noNodeSteps, withSteps, nodesWithSteps}
 use Rattle.spec_policy.proofs.ListLaws.{every-at}
 use Rattle.spec_policy.proofs.NodeLaws.{noN, nodes-length, node-of, first-next, first-in}
 use Rattle.spec_check.specs.Layout.{nodeFits}
 use Rattle.spec_check.specs.Leaves.{everyLeaf}
-use Rattle.spec_check.specs.Numbers.{placeIn}
+use Rattle.spec_check.specs.Numbers.{nodeStepsIn}
 use Rattle.spec_check.specs.Targets.{targetsFit, broken6}
 use Rattle.spec_check.proofs.Numbers.{node-in}
 use Rattle.spec_check.proofs.Rows.{leaf-owned, leaf-fits}
@@ -28,34 +28,34 @@ use Rattle.check_layout.specs.Frame.{Framed}
 use Rattle.check_layout.specs.Fits.{nodesFit}
 use Rattle.file_records.specs.Code.{codeAt}
 use Rattle.check_leaves.specs.Leaves.{nodePasses}
-use Rattle.check_layout.proofs.Frame.{row-place}
+use Rattle.check_layout.proofs.Frame.{step-place}
 use Rattle.file_records.proofs.CodeLaws.{node-code}
 
 -- ---- over plain lists
 
-placed-length : (xs : List Node) (ss : List Step) → length (placed xs ss) ≡ length xs
-unfolding placed
+placed-length : (xs : List Node) (ss : List Step) → length (withSteps xs ss) ≡ length xs
+unfolding withSteps
 placed-length [] ss = refl
-placed-length (x ∷ xs) ss = ap suc (placed-length xs (drop (owned x) ss))
+placed-length (x ∷ xs) ss = ap suc (placed-length xs (drop (stepsOwned x) ss))
 
 -- ---- rule 4: a node's count is what it owns, at most 64
 
 pub record Counts (x : Node) : Type 0 where
-  pub own : owned x ≡ x .count
+  pub own : stepsOwned x ≡ x .count
   pub few : x .count ≤ 64
 
-owns-none : (x : Node) (a b c : Bool) → owned x ≡ 0 → T (a && eqb (x .count) 0 && b && c) → Counts x
+owns-none : (x : Node) (a b c : Bool) → stepsOwned x ≡ 0 → T (a && eqb (x .count) 0 && b && c) → Counts x
 owns-none x a b c e h =
     let z : x .count ≡ 0 =
     eqb→eq (x .count) 0 (and-right a (eqb (x .count) 0) (and-left (a && eqb (x .count) 0) b (and-left (a && eqb (x .count) 0 && b) c h))) in
     record { own = e ∙ sym z; few = omega arith }
 
 kind-counts : (x : Node) (k : NodeKind) → nodeKind (x .kind) ≡ k → T (nodeFits k x) → Counts x
-unfolding owned nodeFits
+unfolding stepsOwned nodeFits
 kind-counts x aLeaf e h = record { own = leaf-owned x e; few = leaf-fits x h .1 }
-kind-counts x aTrivial e h = owns-none x (eqb (x .left) 0 && eqb (x .right) 0) (eqb (x .start) 0) (eqb (x .set) 0) (rw (e, owned)) h
-kind-counts x anUnsatisfiable e h = owns-none x (eqb (x .left) 0 && eqb (x .right) 0) (eqb (x .start) 0) (eqb (x .set) 0) (rw (e, owned)) h
-kind-counts x (aPair w j) e h = owns-none x true (eqb (x .start) 0) (eqb (x .set) 0) (rw (e, owned)) h
+kind-counts x aTrivial e h = owns-none x (eqb (x .left) 0 && eqb (x .right) 0) (eqb (x .start) 0) (eqb (x .set) 0) (rw (e, stepsOwned)) h
+kind-counts x anUnsatisfiable e h = owns-none x (eqb (x .left) 0 && eqb (x .right) 0) (eqb (x .start) 0) (eqb (x .set) 0) (rw (e, stepsOwned)) h
+kind-counts x (aPair w j) e h = owns-none x true (eqb (x .start) 0) (eqb (x .set) 0) (rw (e, stepsOwned)) h
 kind-counts x noNode e h = absurd h
 
 -- ---- over a file
@@ -70,14 +70,14 @@ node-counts file fits i h =
     (kind-counts (getD (nodes file) i noN) (nodeKind (getD (nodes file) i noN .kind)) refl
     (every-at (λ x. nodeFits (nodeKind (x .kind)) x) (nodes file) noN (of-yes _ fits) i (omega (arith, nodes-length file))))
 
-places-length : (file : Bytes) → length (places file) ≡ nodeCount file
-unfolding places
-places-length file = placed-length (nodes file) (map stepOf (rows file)) ∙ nodes-length file
+places-length : (file : Bytes) → length (nodesWithSteps file) ≡ nodeCount file
+unfolding nodesWithSteps
+places-length file = placed-length (nodes file) (map stepOf (stepRecords file)) ∙ nodes-length file
 
 -- `count` as the code reads it of node i, whose record begins at `place`
 pub record Counted (file : Bytes) (i count : ℕ) : Type 0 where
   pub few : count ≤ 64
-  pub own : count ≡ owned (nodeNo file i)
+  pub own : count ≡ stepsOwned (nodeNo file i)
   pub next : firstStep file (i + 1) ≡ firstStep file i + count
 
 pub counted : {file : Bytes} {n m : ℕ} → Framed file n m → nodesFit file ≡ true → (i place count : ℕ) → i < n → place ≡ nodePlace i
@@ -86,7 +86,7 @@ counted {file} f fits i place count h p k =
     let l : i < nodeCount file = omega arith in
     let x : Counts (nodeNo file i) = node-counts file fits i l in
     let e : count ≡ nodeNo file i .count = k ∙ ap (λ (q : ℕ). nodeAt file q .count) p in
-    let o : count ≡ owned (nodeNo file i) = e ∙ sym (x .own) in
+    let o : count ≡ stepsOwned (nodeNo file i) = e ∙ sym (x .own) in
     record { few = omega arith; own = o; next = first-next file i l ∙ ap (λ (c : ℕ). firstStep file i + c) (sym o) }
 
 -- ---- a test of one node, by its kind
@@ -114,9 +114,9 @@ passes-by g x code k e = ap (λ (q : NodeKind). answerOf q (g (x .set) code)) e 
 -- ---- a test of every leaf, from node i on
 
 unfoldable pub leavesFrom : (ActionSet → List Step → Bool) → Bytes → ℕ → Bool
-leavesFrom g file i = everyLeaf g (drop i (places file))
+leavesFrom g file i = everyLeaf g (drop i (nodesWithSteps file))
 
-head-leaf : (g : ActionSet → List Step → Bool) (p : Place) (ps : List Place) → everyLeaf g (p ∷ ps) ≡ (nodePasses g (p .node) (p .steps) && everyLeaf g ps)
+head-leaf : (g : ActionSet → List Step → Bool) (p : NodeSteps) (ps : List NodeSteps) → everyLeaf g (p ∷ ps) ≡ (nodePasses g (p .node) (p .steps) && everyLeaf g ps)
 unfolding everyLeaf nodePasses
 head-leaf g p ps = go (nodeKind (p .node .kind)) refl
   where
@@ -127,31 +127,31 @@ head-leaf g p ps = go (nodeKind (p .node .kind)) refl
     go noNode e = rw (e, everyLeaf, nodePasses)
     go (aPair w j) e = rw (e, everyLeaf, nodePasses)
 
-pub leaves-whole : (g : ActionSet → List Step → Bool) (file : Bytes) → everyLeaf g (places file) ≡ leavesFrom g file 0
+pub leaves-whole : (g : ActionSet → List Step → Bool) (file : Bytes) → everyLeaf g (nodesWithSteps file) ≡ leavesFrom g file 0
 unfolding leavesFrom
 leaves-whole g file = refl
 
 pub leaves-over : (g : ActionSet → List Step → Bool) (file : Bytes) (i : ℕ) → nodeCount file ≤ i → leavesFrom g file i ≡ true
 unfolding leavesFrom everyLeaf
-leaves-over g file i h = ap (λ (ps : List Place). everyLeaf g ps) (drop-of-length-le (places file) {i = i} (omega (arith, places-length file)))
+leaves-over g file i h = ap (λ (ps : List NodeSteps). everyLeaf g ps) (drop-of-length-le (nodesWithSteps file) {i = i} (omega (arith, places-length file)))
 
-module _ {file : Bytes} {n m : ℕ} (f : Framed file n m) (fits : nodesFit file ≡ true) (all : summed (map owned (nodes file)) ≡ m) where
+module _ {file : Bytes} {n m : ℕ} (f : Framed file n m) (fits : nodesFit file ≡ true) (all : summed (map stepsOwned (nodes file)) ≡ m) where
   -- the steps of node i
   abbrev stepsOf : ℕ → List Step
   stepsOf i = codeAt file (6 + 16 * n + 12 * firstStep file i) (nodeNo file i .count)
 
-  own-steps : (i : ℕ) → i < n → placeIn (places file) i .steps ≡ stepsOf i
+  own-steps : (i : ℕ) → i < n → nodeStepsIn (nodesWithSteps file) i .steps ≡ stepsOf i
   own-steps i h =
       node-code file (all ∙ f .steps) i (omega arith)
-      ∙ λ j. codeAt file (row-place f (firstStep file i) j) (node-counts file fits i (omega arith) .own j)
+      ∙ λ j. codeAt file (step-place f (firstStep file i) j) (node-counts file fits i (omega arith) .own j)
 
   leaves-rest : (g : ActionSet → List Step → Bool) (i : ℕ) → i < n → leavesFrom g file i ≡ (nodePasses g (nodeNo file i) (stepsOf i) && leavesFrom g file (i + 1))
   unfolding leavesFrom
   leaves-rest g i h =
       let z : suc i ≡ i + 1 = omega arith in
-      ap (λ (ps : List Place). everyLeaf g ps) (drop-cons (places file) i noPlace (omega (arith, places-length file)))
-      ∙ head-leaf g (placeIn (places file) i) (drop (suc i) (places file))
-      ∙ λ j. nodePasses g (node-in file i (omega arith) j) (own-steps i h j) && everyLeaf g (drop (z j) (places file))
+      ap (λ (ps : List NodeSteps). everyLeaf g ps) (drop-cons (nodesWithSteps file) i noNodeSteps (omega (arith, places-length file)))
+      ∙ head-leaf g (nodeStepsIn (nodesWithSteps file) i) (drop (suc i) (nodesWithSteps file))
+      ∙ λ j. nodePasses g (node-in file i (omega arith) j) (own-steps i h j) && everyLeaf g (drop (z j) (nodesWithSteps file))
 
   -- no node's steps go past the last
   pub steps-in : (i : ℕ) → i < n → firstStep file (i + 1) ≤ m
@@ -163,7 +163,7 @@ module _ {file : Bytes} {n m : ℕ} (f : Framed file n m) (fits : nodesFit file 
     code-here = λ j. codeAt file (a j) ((k ∙ ap (λ (q : ℕ). nodeAt file q .count) p) j)
 
     -- these are the steps of its place
-    pub code-is : codeAt file at count ≡ placeIn (places file) i .steps
+    pub code-is : codeAt file at count ≡ nodeStepsIn (nodesWithSteps file) i .steps
     code-is = code-here ∙ sym (own-steps i h)
 
     pub rest-here : (g : ActionSet → List Step → Bool) → leavesFrom g file i ≡ (nodePasses g (nodeAt file place) (codeAt file at count) && leavesFrom g file (i + 1))
@@ -176,14 +176,14 @@ module _ {file : Bytes} {n m : ℕ} (f : Framed file n m) (fits : nodesFit file 
 
 module _ {file : Bytes} {n m : ℕ} (f : Framed file n m) where
   abbrev sum : ℕ
-  sum = summed (map owned (nodes file))
+  sum = summed (map stepsOwned (nodes file))
 
   pub six-sum : (b : Bool) → b ≡ eqb sum m → b ≡ false → broken6 file ≡ true
   unfolding broken6
   six-sum b e h =
-      ap (λ (x : Bool). not x || not (everyLeaf targetsFit (places file))) (ap (eqb sum) (sym (f .steps)) ∙ sym e ∙ h)
+      ap (λ (x : Bool). not x || not (everyLeaf targetsFit (nodesWithSteps file))) (ap (eqb sum) (sym (f .steps)) ∙ sym e ∙ h)
 
   -- the leaves own all steps
-  pub six-leaves : sum ≡ m → broken6 file ≡ not (everyLeaf targetsFit (places file))
+  pub six-leaves : sum ≡ m → broken6 file ≡ not (everyLeaf targetsFit (nodesWithSteps file))
   unfolding broken6
-  six-leaves e = ap (λ (x : Bool). not x || not (everyLeaf targetsFit (places file))) (eq-eqb sum (stepCount file) (e ∙ f .steps))
+  six-leaves e = ap (λ (x : Bool). not x || not (everyLeaf targetsFit (nodesWithSteps file))) (eq-eqb sum (stepCount file) (e ∙ f .steps))

@@ -1,4 +1,4 @@
--- The walks through the leaves, node after node: what is found so far, and what is left. Assumes nothing.
+-- The walks through the leaves, node after node: what is found so far, and what is left.
 use Prim.Native.Nat.{ℕ, _+_, _*_, _-_, _≤_, _<_}
 use native.Mathlib.Omega.{arith}
 use mathlib.Core.Path.{_≡_, refl, sym, ap, _∙_, subst}
@@ -14,9 +14,9 @@ use Rattle.actions.specs.Sets.{ActionSet}
 use Rattle.actions.proofs.Tests.{true-not-false, and-assoc, and-true}
 use Rattle.spec_policy.specs.Bytes.{Bytes}
 use Rattle.spec_policy.specs.Lists.{summed, every}
-use Rattle.spec_policy.specs.Records.{mostNodes, Node, nodeAt, nodePlace, nodeCount, nodes, rows}
+use Rattle.spec_policy.specs.Records.{mostNodes, Node, nodeAt, nodePlace, nodeCount, nodes, stepRecords}
 use Rattle.spec_policy.specs.Steps.{Step}
-use Rattle.spec_policy.specs.Tree.{aLeaf, aTrivial, anUnsatisfiable, noNode, NodeKind, nodeKind, owned, firstStep, noPlace, places}
+use Rattle.spec_policy.specs.Tree.{aLeaf, aTrivial, anUnsatisfiable, noNode, NodeKind, nodeKind, stepsOwned, firstStep, noNodeSteps, nodesWithSteps}
 use Rattle.spec_policy.proofs.NodeLaws.{first-none, first-over}
 use Rattle.file_records.specs.Kinds.{kindOf}
 use Rattle.file_records.specs.Code.{codeAt}
@@ -24,10 +24,10 @@ use Rattle.file_records.specs.declared.Kind.{Kind}
 use Rattle.file_records.specs.declared.Kind.the-variants.{Leaf, Trivial, Unsatisfiable, Pair, Unknown}
 use Rattle.file_records.proofs.Kind.{the-type}
 use Rattle.check_layout.specs.Frame.{Framed}
-use Rattle.check_layout.specs.Fits.{nodesFit, rowsFit, ruleOr4}
-use Rattle.check_layout.proofs.Frame.{all-rows}
-use Rattle.check_layout.proofs.Rows.{rows-none, rows-split}
-use Rattle.spec_check.specs.Layout.{rowFits}
+use Rattle.check_layout.specs.Fits.{nodesFit, stepsFit, ruleOr4}
+use Rattle.check_layout.proofs.Frame.{all-records}
+use Rattle.check_layout.proofs.Rows.{records-none, records-split}
+use Rattle.spec_check.specs.Layout.{stepFits}
 use Rattle.spec_check.specs.Leaves.{everyLeaf}
 use Rattle.spec_check.specs.Targets.{targetsFit}
 use Rattle.spec_check.specs.Modes.{broken7}
@@ -36,7 +36,7 @@ use Rattle.spec_check.specs.Interference.{leafEffects}
 use Rattle.spec_check.proofs.Numbers.{node-read}
 use Rattle.check_leaf.specs.declared.Walked.{Walked}
 use Rattle.check_leaf.specs.Leaf.{LeafFound}
-use Rattle.check_leaves.specs.Leaves.{nodePasses, modesOf, insertsIn, NodeKept, NodeFound, Held, lowest, LeavesFound}
+use Rattle.check_leaves.specs.Leaves.{nodePasses, modesOf, insertsIn, NodeKept, NodeFound, LeafValues, lowest, LeavesFound}
 use Rattle.check_leaves.proofs.LeafLaws.{counted, answerOf, passes-by, leavesFrom, leaves-whole, leaves-over, steps-in, rest-here, code-is}
 
 -- ---- one node
@@ -45,17 +45,17 @@ module _ (file : Bytes) (at count : ℕ) (x : Node) (w : Walked) where
   abbrev code : List Step
   code = codeAt file at count
 
-  pub leaf-found : (s : ActionSet) → aLeaf ≡ nodeKind (x .kind) → s ≡ x .set → LeafFound w s (rowsFit file at count) code
-      → NodeFound w x (rowsFit file at count) code
+  pub leaf-found : (s : ActionSet) → aLeaf ≡ nodeKind (x .kind) → s ≡ x .set → LeafFound w s (stepsFit file at count) code
+      → NodeFound w x (stepsFit file at count) code
   unfolding answerOf modesOf insertsIn
   leaf-found s k e f =
-      let found = subst (λ (r : ActionSet). LeafFound w r (rowsFit file at count) code) e f in
+      let found = subst (λ (r : ActionSet). LeafFound w r (stepsFit file at count) code) e f in
       let six : nodePasses targetsFit x code ≡ targetsFit (x .set) code = sym (passes-by targetsFit x code aLeaf k) in
       record {
         fields-broken = found .fields-broken;
         targets-broken = λ g t. six ∙ found .targets-broken g t;
         kept = λ g t. let kept = found .kept g t in record {
-          rows = kept .rows;
+          stepRecords = kept .stepRecords;
           targets = six ∙ kept .targets;
           modes = kept .modes ∙ passes-by modesOf x code aLeaf k;
           taken = kept .taken ∙ passes-by allTaken x code aLeaf k;
@@ -65,17 +65,17 @@ module _ (file : Bytes) (at count : ℕ) (x : Node) (w : Walked) where
       }
 
   -- a node that is no leaf, and so owns no step
-  pub other-found : (q : Kind) → w .fields ≡ true → w .targets ≡ true → w .modes ≡ true → w .taken ≡ true → count ≡ owned x
-      → kindOf q ≡ nodeKind (x .kind) → OneOf (1 ∷ 2 ∷ 3 ∷ 4 ∷ []) (tagOf the-type q) → NodeFound w x (rowsFit file at count) code
-  unfolding answerOf kindOf owned
+  pub other-found : (q : Kind) → w .fields ≡ true → w .targets ≡ true → w .modes ≡ true → w .taken ≡ true → count ≡ stepsOwned x
+      → kindOf q ≡ nodeKind (x .kind) → OneOf (1 ∷ 2 ∷ 3 ∷ 4 ∷ []) (tagOf the-type q) → NodeFound w x (stepsFit file at count) code
+  unfolding answerOf kindOf stepsOwned
   other-found q four six seven eight own = go q
     where
-      found : (j : NodeKind) → ((b : Bool) → answerOf j b ≡ true) → owned x ≡ 0 → j ≡ nodeKind (x .kind) → NodeFound w x (rowsFit file at count) code
+      found : (j : NodeKind) → ((b : Bool) → answerOf j b ≡ true) → stepsOwned x ≡ 0 → j ≡ nodeKind (x .kind) → NodeFound w x (stepsFit file at count) code
       found j a none u = record {
         fields-broken = λ g. true-not-false four g;
         targets-broken = λ g t. true-not-false six t;
         kept = λ g t. record {
-          rows = ap (rowsFit file at) (own ∙ none) ∙ rows-none file at;
+          stepRecords = ap (stepsFit file at) (own ∙ none) ∙ records-none file at;
           targets = sym (passes-by targetsFit x code j u) ∙ a (targetsFit (x .set) code);
           modes = seven ∙ sym (a (modesOf (x .set) code)) ∙ passes-by modesOf x code j u;
           taken = eight ∙ sym (a (allTaken (x .set) code)) ∙ passes-by allTaken x code j u;
@@ -84,46 +84,46 @@ module _ (file : Bytes) (at count : ℕ) (x : Node) (w : Walked) where
         };
       }
 
-      go : (q : Kind) → kindOf q ≡ nodeKind (x .kind) → OneOf (1 ∷ 2 ∷ 3 ∷ 4 ∷ []) (tagOf the-type q) → NodeFound w x (rowsFit file at count) code
+      go : (q : Kind) → kindOf q ≡ nodeKind (x .kind) → OneOf (1 ∷ 2 ∷ 3 ∷ 4 ∷ []) (tagOf the-type q) → NodeFound w x (stepsFit file at count) code
       go Leaf u o = absurd (miss (1 ∷ 2 ∷ 3 ∷ 4 ∷ []) 0 tt o)
-      go Trivial u o = found aTrivial (λ b. refl) (rw (sym u, owned)) u
-      go Unsatisfiable u o = found anUnsatisfiable (λ b. refl) (rw (sym u, owned)) u
-      go (Pair v j) u o = found _ (λ b. refl) (rw (sym u, owned)) u
-      go Unknown u o = found noNode (λ b. refl) (rw (sym u, owned)) u
+      go Trivial u o = found aTrivial (λ b. refl) (rw (sym u, stepsOwned)) u
+      go Unsatisfiable u o = found anUnsatisfiable (λ b. refl) (rw (sym u, stepsOwned)) u
+      go (Pair v j) u o = found _ (λ b. refl) (rw (sym u, stepsOwned)) u
+      go Unknown u o = found noNode (λ b. refl) (rw (sym u, stepsOwned)) u
 
 -- ---- node after node
 
 -- one leaf more
-held-more : (f : ActionSet → List Step → ℕ) (file : Bytes) (i v : ℕ) (xs : List ℕ) → i < mostNodes → Held f file i xs
-    → (nodeKind (getD (places file) i noPlace .node .kind) ≡ aLeaf → v ≡ f (getD (places file) i noPlace .node .set) (getD (places file) i noPlace .steps))
-    → Held f file (i + 1) (set xs i v)
+held-more : (f : ActionSet → List Step → ℕ) (file : Bytes) (i v : ℕ) (xs : List ℕ) → i < mostNodes → LeafValues f file i xs
+    → (nodeKind (getD (nodesWithSteps file) i noNodeSteps .node .kind) ≡ aLeaf → v ≡ f (getD (nodesWithSteps file) i noNodeSteps .node .set) (getD (nodesWithSteps file) i noNodeSteps .steps))
+    → LeafValues f file (i + 1) (set xs i v)
 held-more f file i v xs few old new = record { room = length-set xs i v ∙ old .room; at = λ k h l. go k h l (eqb k i) refl }
   where
-    go : (k : ℕ) → k < i + 1 → nodeKind (getD (places file) k noPlace .node .kind) ≡ aLeaf → (b : Bool) → eqb k i ≡ b
-        → getD (set xs i v) k 0 ≡ f (getD (places file) k noPlace .node .set) (getD (places file) k noPlace .steps)
+    go : (k : ℕ) → k < i + 1 → nodeKind (getD (nodesWithSteps file) k noNodeSteps .node .kind) ≡ aLeaf → (b : Bool) → eqb k i ≡ b
+        → getD (set xs i v) k 0 ≡ f (getD (nodesWithSteps file) k noNodeSteps .node .set) (getD (nodesWithSteps file) k noNodeSteps .steps)
     go k h l true e =
         let z : k ≡ i = eqb-true k i e in
         ap (λ (j : ℕ). getD (set xs i v) j 0) z ∙ getD-set-same xs i v 0 (omega (arith, old .room))
-        ∙ new (subst (λ (j : ℕ). nodeKind (getD (places file) j noPlace .node .kind) ≡ aLeaf) z l)
-        ∙ ap (λ (j : ℕ). f (getD (places file) j noPlace .node .set) (getD (places file) j noPlace .steps)) (sym z)
+        ∙ new (subst (λ (j : ℕ). nodeKind (getD (nodesWithSteps file) j noNodeSteps .node .kind) ≡ aLeaf) z l)
+        ∙ ap (λ (j : ℕ). f (getD (nodesWithSteps file) j noNodeSteps .node .set) (getD (nodesWithSteps file) j noNodeSteps .steps)) (sym z)
     go k h l false e =
         let z : k ≡ i → ⊥ = eqb-false k i e in
         getD-set-other xs i k v 0 z ∙ old .at k (omega (arith, z)) l
 
-module _ {file : Bytes} {n m : ℕ} (f : Framed file n m) (fits : nodesFit file ≡ true) (all : summed (map owned (nodes file)) ≡ m) where
+module _ {file : Bytes} {n m : ℕ} (f : Framed file n m) (fits : nodesFit file ≡ true) (all : summed (map stepsOwned (nodes file)) ≡ m) where
   -- what is found of the nodes before node i, whose steps begin at `at`
   pub record Walking (i at : ℕ) (effs ins : List ℕ) (modes taken : Bool) : Type 0 where
     pub below : i ≤ n
     pub begins : at ≡ 6 + 16 * n + 12 * firstStep file i
     pub room : (length effs ≡ mostNodes) × (length ins ≡ mostNodes)
-    pub fours : every rowFits (rows file) ≡ rowsFit file at (m - firstStep file i)
-    pub sixes : everyLeaf targetsFit (places file) ≡ leavesFrom targetsFit file i
-    pub sevens : everyLeaf modesOf (places file) ≡ (modes && leavesFrom modesOf file i)
-    pub eights : everyLeaf allTaken (places file) ≡ (taken && leavesFrom allTaken file i)
-    pub effects : Held leafEffects file i effs
-    pub inserts : Held insertsIn file i ins
+    pub fours : every stepFits (stepRecords file) ≡ stepsFit file at (m - firstStep file i)
+    pub sixes : everyLeaf targetsFit (nodesWithSteps file) ≡ leavesFrom targetsFit file i
+    pub sevens : everyLeaf modesOf (nodesWithSteps file) ≡ (modes && leavesFrom modesOf file i)
+    pub eights : everyLeaf allTaken (nodesWithSteps file) ≡ (taken && leavesFrom allTaken file i)
+    pub effects : LeafValues leafEffects file i effs
+    pub inserts : LeafValues insertsIn file i ins
 
-  none-held : (g : ActionSet → List Step → ℕ) (xs : List ℕ) → length xs ≡ mostNodes → Held g file 0 xs
+  none-held : (g : ActionSet → List Step → ℕ) (xs : List ℕ) → length xs ≡ mostNodes → LeafValues g file 0 xs
   none-held g xs l = record { room = l; at = λ k h. absurd (omega arith) }
 
   pub walk-starts : (at : ℕ) (effs ins : List ℕ) → at ≡ 6 + 16 * n → length effs ≡ mostNodes → length ins ≡ mostNodes
@@ -135,7 +135,7 @@ module _ {file : Bytes} {n m : ℕ} (f : Framed file n m) (fits : nodesFit file 
         below = omega arith;
         begins = omega (arith, first-none file);
         room = (l, k);
-        fours = all-rows f ∙ λ j. rowsFit file (a j) (c j);
+        fours = all-records f ∙ λ j. stepsFit file (a j) (c j);
         sixes = leaves-whole targetsFit file;
         sevens = leaves-whole modesOf file;
         eights = leaves-whole allTaken file;
@@ -146,7 +146,7 @@ module _ {file : Bytes} {n m : ℕ} (f : Framed file n m) (fits : nodesFit file 
   -- the walk through node i, whose record begins at `place`, has given w
   module _ (i at : ℕ) (effs ins : List ℕ) (modes taken : Bool) (s : Walking i at effs ins modes taken) (place count : ℕ) (h : i < n)
       (p : place ≡ nodePlace i) (k : count ≡ nodeAt file place .count) (w : Walked)
-      (found : NodeFound w (nodeAt file place) (rowsFit file at count) (codeAt file at count)) where
+      (found : NodeFound w (nodeAt file place) (stepsFit file at count) (codeAt file at count)) where
     next : firstStep file (i + 1) ≡ firstStep file i + count
     next = counted f fits i place count h p k .next
 
@@ -154,29 +154,29 @@ module _ {file : Bytes} {n m : ℕ} (f : Framed file n m) (fits : nodesFit file 
         → leavesFrom g file i ≡ (nodePasses g (nodeAt file place) (codeAt file at count) && leavesFrom g file (i + 1))
     rest = rest-here f fits all i place at count h p (s .begins) k
 
-    rows-rest : every rowFits (rows file) ≡ (rowsFit file at count && rowsFit file (at + 12 * count) (m - firstStep file (i + 1)))
-    rows-rest =
+    records-rest : every stepFits (stepRecords file) ≡ (stepsFit file at count && stepsFit file (at + 12 * count) (m - firstStep file (i + 1)))
+    records-rest =
         let z : m - firstStep file i ≡ count + (m - firstStep file (i + 1)) = omega (arith, next, steps-in f fits all i h) in
-        s .fours ∙ ap (rowsFit file at) z ∙ rows-split file at count (m - firstStep file (i + 1))
+        s .fours ∙ ap (stepsFit file at) z ∙ records-split file at count (m - firstStep file (i + 1))
 
-    pub stops-at-4 : w .fields ≡ false → every rowFits (rows file) ≡ false
-    stops-at-4 bad = rows-rest ∙ ap (λ (b : Bool). b && rowsFit file (at + 12 * count) (m - firstStep file (i + 1))) (found .fields-broken bad)
+    pub stops-at-4 : w .fields ≡ false → every stepFits (stepRecords file) ≡ false
+    stops-at-4 bad = records-rest ∙ ap (λ (b : Bool). b && stepsFit file (at + 12 * count) (m - firstStep file (i + 1))) (found .fields-broken bad)
 
-    pub stops-at-6 : w .fields ≡ true → w .targets ≡ false → everyLeaf targetsFit (places file) ≡ false
+    pub stops-at-6 : w .fields ≡ true → w .targets ≡ false → everyLeaf targetsFit (nodesWithSteps file) ≡ false
     stops-at-6 good bad = s .sixes ∙ rest targetsFit ∙ ap (λ (b : Bool). b && leavesFrom targetsFit file (i + 1)) (found .targets-broken good bad)
 
     module _ (four : w .fields ≡ true) (six : w .targets ≡ true) where
-      kept : NodeKept w (nodeAt file place) (rowsFit file at count) (codeAt file at count)
+      kept : NodeKept w (nodeAt file place) (stepsFit file at count) (codeAt file at count)
       kept = found .kept four six
 
-      node-is : getD (places file) i noPlace .node ≡ nodeAt file place
+      node-is : getD (nodesWithSteps file) i noNodeSteps .node ≡ nodeAt file place
       node-is = node-read file (omega (arith, f .nodes)) p
 
-      leaf-here : nodeKind (getD (places file) i noPlace .node .kind) ≡ aLeaf → nodeKind (nodeAt file place .kind) ≡ aLeaf
+      leaf-here : nodeKind (getD (nodesWithSteps file) i noNodeSteps .node .kind) ≡ aLeaf → nodeKind (nodeAt file place .kind) ≡ aLeaf
       leaf-here l = ap (λ (x : Node). nodeKind (x .kind)) (sym node-is) ∙ l
 
       of-place : (g : ActionSet → List Step → ℕ)
-          → g (nodeAt file place .set) (codeAt file at count) ≡ g (getD (places file) i noPlace .node .set) (getD (places file) i noPlace .steps)
+          → g (nodeAt file place .set) (codeAt file at count) ≡ g (getD (nodesWithSteps file) i noNodeSteps .node .set) (getD (nodesWithSteps file) i noNodeSteps .steps)
       of-place g = let e = sym node-is in let c = code-is f fits all i place at count h p (s .begins) k in λ j. g (e j .set) (c j)
 
       pub walk-goes : Walking (i + 1) (at + 12 * count) (set effs i (w .effects .bits)) (set ins i (w .inserts)) (modes && w .modes) (taken && w .taken)
@@ -184,7 +184,7 @@ module _ {file : Bytes} {n m : ℕ} (f : Framed file n m) (fits : nodesFit file 
         below = omega arith;
         begins = omega (arith, s .begins, next);
         room = (length-set effs i (w .effects .bits) ∙ s .room .0, length-set ins i (w .inserts) ∙ s .room .1);
-        fours = rows-rest ∙ ap (λ (b : Bool). b && rowsFit file (at + 12 * count) (m - firstStep file (i + 1))) (kept .rows);
+        fours = records-rest ∙ ap (λ (b : Bool). b && stepsFit file (at + 12 * count) (m - firstStep file (i + 1))) (kept .stepRecords);
         sixes = s .sixes ∙ rest targetsFit ∙ ap (λ (b : Bool). b && leavesFrom targetsFit file (i + 1)) (kept .targets);
         sevens = s .sevens ∙ ap (λ (b : Bool). modes && b) (rest modesOf ∙ ap (λ (b : Bool). b && leavesFrom modesOf file (i + 1)) (sym (kept .modes)))
             ∙ and-assoc modes (w .modes) (leavesFrom modesOf file (i + 1));
@@ -197,22 +197,22 @@ module _ {file : Bytes} {n m : ℕ} (f : Framed file n m) (fits : nodesFit file 
   -- ---- the end
 
   module _ (effs ins : List ℕ) where
-    pub found-four : every rowFits (rows file) ≡ false → LeavesFound file n 4 effs ins
+    pub found-four : every stepFits (stepRecords file) ≡ false → LeavesFound file n 4 effs ins
     unfolding lowest
     found-four bad = record {
-      is = sym (ap (λ (b : Bool). lowest (not b) (not (everyLeaf targetsFit (places file))) (broken7 file) (broken8 file)) bad);
+      is = sym (ap (λ (b : Bool). lowest (not b) (not (everyLeaf targetsFit (nodesWithSteps file))) (broken7 file) (broken8 file)) bad);
       effects = λ e. absurd (omega arith);
       inserts = λ e. absurd (omega arith);
     }
 
     -- a leaf breaks rule 6, and the step records are tested, those of the leaves after it too
-    pub found-six : (rule : ℕ) → rule ≡ ruleOr4 (every rowFits (rows file)) 6 → everyLeaf targetsFit (places file) ≡ false → LeavesFound file n rule effs ins
+    pub found-six : (rule : ℕ) → rule ≡ ruleOr4 (every stepFits (stepRecords file)) 6 → everyLeaf targetsFit (nodesWithSteps file) ≡ false → LeavesFound file n rule effs ins
     unfolding lowest ruleOr4
     found-six rule e bad =
         record {
-          is = e ∙ six (every rowFits (rows file)) ∙ sym (ap (λ (b : Bool). lowest (not (every rowFits (rows file))) (not b) (broken7 file) (broken8 file)) bad);
-          effects = λ z. absurd (some (every rowFits (rows file)) (sym e ∙ z));
-          inserts = λ z. absurd (some (every rowFits (rows file)) (sym e ∙ z));
+          is = e ∙ six (every stepFits (stepRecords file)) ∙ sym (ap (λ (b : Bool). lowest (not (every stepFits (stepRecords file))) (not b) (broken7 file) (broken8 file)) bad);
+          effects = λ z. absurd (some (every stepFits (stepRecords file)) (sym e ∙ z));
+          inserts = λ z. absurd (some (every stepFits (stepRecords file)) (sym e ∙ z));
         }
       where
         six : (b : Bool) → ruleOr4 b 6 ≡ lowest (not b) true (broken7 file) (broken8 file)
@@ -227,10 +227,10 @@ module _ {file : Bytes} {n m : ℕ} (f : Framed file n m) (fits : nodesFit file 
     over : nodeCount file ≤ i
     over = omega (arith, f .nodes)
 
-    four-is : every rowFits (rows file) ≡ true
-    four-is = let z : m - firstStep file i ≡ 0 = omega (arith, first-over file i over) in s .fours ∙ ap (rowsFit file at) z ∙ rows-none file at
+    four-is : every stepFits (stepRecords file) ≡ true
+    four-is = let z : m - firstStep file i ≡ 0 = omega (arith, first-over file i over) in s .fours ∙ ap (stepsFit file at) z ∙ records-none file at
 
-    six-is : everyLeaf targetsFit (places file) ≡ true
+    six-is : everyLeaf targetsFit (nodesWithSteps file) ≡ true
     six-is = s .sixes ∙ leaves-over targetsFit file i over
 
     seven-is : broken7 file ≡ not modes
@@ -242,7 +242,7 @@ module _ {file : Bytes} {n m : ℕ} (f : Framed file n m) (fits : nodesFit file 
     eight-is = ap not (s .eights ∙ ap (λ (b : Bool). taken && b) (leaves-over allTaken file i over) ∙ and-true taken)
 
     by : (modes′ taken′ : Bool) → modes ≡ modes′ → taken ≡ taken′
-        → lowest false false (not modes′) (not taken′) ≡ lowest (not (every rowFits (rows file))) (not (everyLeaf targetsFit (places file))) (broken7 file) (broken8 file)
+        → lowest false false (not modes′) (not taken′) ≡ lowest (not (every stepFits (stepRecords file))) (not (everyLeaf targetsFit (nodesWithSteps file))) (broken7 file) (broken8 file)
     by modes′ taken′ e g =
         let a = four-is in let b = six-is in let c = seven-is ∙ ap not e in let d = eight-is ∙ ap not g in
         sym (λ j. lowest (not (a j)) (not (b j)) (c j) (d j))
@@ -261,6 +261,6 @@ module _ {file : Bytes} {n m : ℕ} (f : Framed file n m) (fits : nodesFit file 
         let z : i ≡ n = omega (arith, s .below) in
         record {
           is = by true true e g;
-          effects = λ o. subst (λ (j : ℕ). Held leafEffects file j effs) z (s .effects);
-          inserts = λ o. subst (λ (j : ℕ). Held insertsIn file j ins) z (s .inserts);
+          effects = λ o. subst (λ (j : ℕ). LeafValues leafEffects file j effs) z (s .effects);
+          inserts = λ o. subst (λ (j : ℕ). LeafValues insertsIn file j ins) z (s .inserts);
         }

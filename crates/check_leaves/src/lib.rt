@@ -7,9 +7,9 @@ ghost use lib.Dec.{eqb};
 ghost use lib.ListN.{length};
 ghost use Rattle.spec_policy.specs.Lists.{summed};
 ghost use Rattle.spec_policy.specs.Records.{mostNodes, nodeSize, nodeAt, nodes, mostLeafSteps, stepSize};
-ghost use Rattle.spec_policy.specs.Tree.{owned};
+ghost use Rattle.spec_policy.specs.Tree.{stepsOwned};
 ghost use Rattle.check_layout.specs.Frame.{Framed};
-ghost use Rattle.check_layout.specs.Fits.{nodesFit, rowsFit};
+ghost use Rattle.check_layout.specs.Fits.{nodesFit, stepsFit};
 ghost use Rattle.file_records.specs.Code.{codeAt};
 ghost use Rattle.check_leaves.specs.Leaves.{NodeFound, LeavesFound};
 use actions::ActionSet;
@@ -27,7 +27,7 @@ use file_records::node_set;
 pub fn all_owned(policy: &[u8], n: usize, m: usize) -> bool
     requires { ⌜ Framed (now policy) n m ⌝ }
     requires { ⌜ nodesFit (now policy) ≡ true ⌝ }
-    ensures { λ r. ⌜ r ≡ eqb (summed (map owned (nodes (now (policy .entry))))) m ⌝ }
+    ensures { λ r. ⌜ r ≡ eqb (summed (map stepsOwned (nodes (now (policy .entry))))) m ⌝ }
 {
     let mut sum: usize = 0;
     let mut i = 0;
@@ -41,8 +41,8 @@ pub fn all_owned(policy: &[u8], n: usize, m: usize) -> bool
 // The node whose record begins at `place`, with the steps that it owns from `at` on: only a leaf is walked through.
 fn walk_node(policy: &[u8], place: usize, at: usize, count: usize) -> Walked
     requires { ⌜ (place + nodeSize ≤ length (now policy)) × (at + stepSize * count ≤ length (now policy)) × (count ≤ mostLeafSteps) ⌝ }
-    requires { ⌜ count ≡ owned (nodeAt (now policy) place) ⌝ }
-    ensures { λ r. ⌜ NodeFound r (nodeAt (now (policy .entry)) place) (rowsFit (now (policy .entry)) at count) (codeAt (now (policy .entry)) at count) ⌝ }
+    requires { ⌜ count ≡ stepsOwned (nodeAt (now policy) place) ⌝ }
+    ensures { λ r. ⌜ NodeFound r (nodeAt (now (policy .entry)) place) (stepsFit (now (policy .entry)) at count) (codeAt (now (policy .entry)) at count) ⌝ }
 {
     let kind = node_kind(policy, place);
     match kind {
@@ -69,7 +69,7 @@ pub fn walk_leaves(
 ) -> u8
     requires { ⌜ Framed (now policy) n m ⌝ }
     requires { ⌜ nodesFit (now policy) ≡ true ⌝ }
-    requires { ⌜ summed (map owned (nodes (now policy))) ≡ m ⌝ }
+    requires { ⌜ summed (map stepsOwned (nodes (now policy))) ≡ m ⌝ }
     requires { ⌜ (length (now effects) ≡ mostNodes) × (length (now inserts) ≡ mostNodes) ⌝ }
     ensures { λ r. ⌜ LeavesFound (now (policy .entry)) n r (now (effects .exit)) (now (inserts .exit)) ⌝ }
 {

@@ -1,5 +1,5 @@
 -- What is marked at a step when the walk comes to it is what is marked there at the end, unless it is a next; and what a next's test is.
--- Assumes nothing.
+--
 use Prim.Native.Nat.{ℕ, suc, _+_, _^_, _≤_, _<_}
 use native.Mathlib.Omega.{arith}
 use mathlib.Core.Path.{_≡_, refl, sym, ap, _∙_, subst}

@@ -1,5 +1,5 @@
 -- One step of the mode rule: there is room for its marks, its marks are those that the table leads to, and its test is the table's.
--- Assumes nothing.
+--
 use Prim.Native.Nat.{ℕ, zero, suc, _+_, _/_, _%_, _≤_, _<_}
 use native.Mathlib.Omega.{arith}
 use mathlib.Core.Path.{_≡_, refl, sym, ap, _∙_, subst, subst₂}

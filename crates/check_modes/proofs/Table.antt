@@ -1,29 +1,29 @@
--- The table says what the mode rule says, of every kind of step in every mode. Assumes nothing.
+-- The table says what the mode rule says, of every kind of step in every mode.
 use Prim.Native.Nat.{ℕ, zero, suc, _≤_}
 use native.Mathlib.Omega.{arith}
 use mathlib.Core.Path.{_≡_, refl}
 use Rattle.spec_policy.specs.Lists.{one}
-use Rattle.spec_policy.specs.Records.{Row}
+use Rattle.spec_policy.specs.Records.{StepRecord}
 use Rattle.spec_policy.specs.Steps.{Step, next, ok, sup, ins, acase, spend, end, halt, stepOf, isNext}
 use Rattle.spec_check.specs.Modes.{Mode, idle, pending, closing, isIdle, isPending, isClosing, stands, leads}
 use Rattle.check_modes.specs.Table.{modeNumber, table, entryAt, firstMode, secondMode, ruled, reaching, mayStand, ledBy, Tells}
 
 -- a step of each kind, by its number; the fields that the kind does not use are no matter
-abbrev kinded : Row → ℕ → Step
+abbrev kinded : StepRecord → ℕ → Step
 kinded r k = stepOf (record { kind = k; action = r .action; first = r .first; second = r .second; operand = r .operand })
 
 -- ---- the whole table: every entry of every row is the rule's own
 
 -- the entry of kind k in a mode
-abbrev Entry : Row → ℕ → Mode → Type 0
+abbrev Entry : StepRecord → ℕ → Mode → Type 0
 Entry r k m = entryAt k (modeNumber m) ≡ ruled (kinded r k) m
 
-each : (r : Row) (k : ℕ) → Entry r k idle → Entry r k pending → Entry r k closing → (m : Mode) → Entry r k m
+each : (r : StepRecord) (k : ℕ) → Entry r k idle → Entry r k pending → Entry r k closing → (m : Mode) → Entry r k m
 each r k a b c idle = a
 each r k a b c pending = b
 each r k a b c closing = c
 
-entries : (r : Row) (k : ℕ) → 1 ≤ k → k ≤ 8 → (m : Mode) → Entry r k m
+entries : (r : StepRecord) (k : ℕ) → 1 ≤ k → k ≤ 8 → (m : Mode) → Entry r k m
 unfolding table entryAt modeNumber stepOf stands leads isIdle isPending firstMode secondMode ruled one
 entries r zero g h = absurd (omega arith)
 entries r (suc zero) g h = each r 1 refl refl refl
@@ -36,7 +36,7 @@ entries r (suc (suc (suc (suc (suc (suc (suc zero))))))) g h = each r 7 refl ref
 entries r (suc (suc (suc (suc (suc (suc (suc (suc zero)))))))) g h = each r 8 refl refl refl
 entries r (suc (suc (suc (suc (suc (suc (suc (suc (suc k))))))))) g h = absurd (omega arith)
 
-pub table-ruled : (r : Row) (m : Mode) → 1 ≤ r .kind → r .kind ≤ 8 → entryAt (r .kind) (modeNumber m) ≡ ruled (stepOf r) m
+pub table-ruled : (r : StepRecord) (m : Mode) → 1 ≤ r .kind → r .kind ≤ 8 → entryAt (r .kind) (modeNumber m) ≡ ruled (stepOf r) m
 table-ruled r m g h = entries r (r .kind) g h m
 
 -- ---- what the code asks of it

@@ -1,4 +1,4 @@
--- The marks in their words: what the first mark, one mark more and a look at one offset are. Whatever opens `Agrees` is here. Assumes nothing.
+-- The marks in their words: what the first mark, one mark more and a look at one offset are. Whatever opens `Agrees` is here.
 use Prim.Native.Nat.{ℕ, _*_, _%_, _^_, _<_}
 use native.Mathlib.Nat.{one-mul}
 use native.Mathlib.Omega.{arith}

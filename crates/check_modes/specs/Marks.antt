@@ -1,4 +1,4 @@
--- How the mode pass keeps its marks: a word for each mode, read as the set of the offsets that are marked in it. Assumes nothing.
+-- How the mode pass keeps its marks: a word for each mode, read as the set of the offsets that are marked in it.
 use Prim.Native.Nat.{ℕ, _+_, _<_}
 use mathlib.Core.Path.{_≡_}
 use mathlib.Core.Bool.{Bool, true, false, _&&_, _||_, not}

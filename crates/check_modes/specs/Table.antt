@@ -1,4 +1,4 @@
--- The mode rule as a table, a row for each kind of step and a column for each mode, and what an entry says. Assumes nothing.
+-- The mode rule as a table, a row for each kind of step and a column for each mode, and what an entry says.
 use Prim.Native.Nat.{ℕ, _+_, _-_, _*_, _/_, _%_}
 use mathlib.Core.Path.{_≡_}
 use mathlib.Core.Bool.{Bool}

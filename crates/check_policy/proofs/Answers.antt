@@ -1,4 +1,4 @@
--- An answer is known by its meaning: no two answers of the check mean the same, and each says what the check says. Assumes nothing.
+-- An answer is known by its meaning: no two answers of the check mean the same, and each says what the check says.
 use Prim.Native.Nat.{ℕ}
 use mathlib.Core.Path.{_≡_, refl, sym, ap, ap₂, _∙_}
 use mathlib.Core.Bool.{Bool, true, false}
@@ -8,7 +8,7 @@ use Rattle.spec_policy.specs.Bytes.{Bytes}
 use Rattle.spec_check.specs.Check.{Answer, passes, refused, check}
 use Rattle.check_policy.specs.declared.Checked.{Checked}
 use Rattle.check_policy.specs.declared.Checked.the-variants.{Passed, Refused}
-use Rattle.check_policy.specs.Answers.{answered, numberOf}
+use Rattle.check_policy.specs.Answers.{answered, refusalNumber}
 
 isPass : Answer → Bool
 isPass (passes r e) = true
@@ -33,9 +33,9 @@ one-answer (Refused n) (Refused m) h = ap (λ (x : ℕ). Refused x) (ap first h)
 -- ---- what the code's answer says of the check's
 
 -- what `number` gives of a refusal is the refusal's
-pub number-refuses : {x : Checked} {n k : ℕ} → k ≡ numberOf (answered x) → x ≡ Refused n → k ≡ n
-unfolding answered numberOf
-number-refuses e h = e ∙ ap (λ (y : Checked). numberOf (answered y)) h
+pub number-refuses : {x : Checked} {n k : ℕ} → k ≡ refusalNumber (answered x) → x ≡ Refused n → k ≡ n
+unfolding answered refusalNumber
+number-refuses e h = e ∙ ap (λ (y : Checked). refusalNumber (answered y)) h
 
 module _ (policy : Bytes) {x : Checked} (e : answered x ≡ check policy) where
   pub check-passes : {r f : ActionSet} → x ≡ Passed r f → check policy ≡ passes (r .bits) (f .bits)

@@ -1,4 +1,4 @@
--- The rules in order: the answer at the first that is broken, and the answer where none is. Assumes nothing.
+-- The rules in order: the answer at the first that is broken, and the answer where none is.
 use Prim.Native.Nat.{ℕ, _≤_}
 use native.Mathlib.Omega.{arith}
 use mathlib.Core.Path.{_≡_, refl, sym, _∙_, ap, ap₂, subst}
@@ -9,9 +9,9 @@ use lib.ListN.{length, getD}
 use Rattle.actions.proofs.Tests.{or-false-left}
 use Rattle.spec_policy.specs.Bytes.{Bytes}
 use Rattle.spec_policy.specs.Lists.{summed, every}
-use Rattle.spec_policy.specs.Records.{nodeCount, stepCount, lengthField, nodes, rows}
-use Rattle.spec_policy.specs.Tree.{owned, regulated}
-use Rattle.spec_check.specs.Layout.{rowFits, broken1, broken2, broken3, broken4}
+use Rattle.spec_policy.specs.Records.{nodeCount, stepCount, lengthField, nodes, stepRecords}
+use Rattle.spec_policy.specs.Tree.{stepsOwned, regulated}
+use Rattle.spec_check.specs.Layout.{stepFits, broken1, broken2, broken3, broken4}
 use Rattle.spec_check.specs.Children.{broken5}
 use Rattle.spec_check.specs.Targets.{broken6}
 use Rattle.spec_check.specs.Modes.{broken7}
@@ -80,34 +80,34 @@ module _ (file : Bytes) where
         sym (lowest-refused file 8 (after (k .one) (after (k .two) (after (k .three) (after a (after b (after c (after d (here e refl)))))))))
 
     -- rule 4 by its two parts
-    by-parts : {b : Bool} → nodesFit file ≡ b → broken4 file ≡ (not b || not (every rowFits (rows file)))
+    by-parts : {b : Bool} → nodesFit file ≡ b → broken4 file ≡ (not b || not (every stepFits (stepRecords file)))
     unfolding broken4 nodesFit
-    by-parts e = ap (λ (x : Bool). not x || not (every rowFits (rows file))) e
+    by-parts e = ap (λ (x : Bool). not x || not (every stepFits (stepRecords file))) e
 
     pub refused-node : nodesFit file ≡ false → refused 4 ≡ check file
     refused-node e = refused-4 (by-parts e)
 
     module _ (fits : nodesFit file ≡ true) where
       -- a rule that was found broken before the step records were tested
-      refused-or-4 : (rule number : ℕ) → number ≡ ruleOr4 (every rowFits (rows file)) rule → (broken4 file ≡ false → refused rule ≡ check file)
+      refused-or-4 : (rule number : ℕ) → number ≡ ruleOr4 (every stepFits (stepRecords file)) rule → (broken4 file ≡ false → refused rule ≡ check file)
           → refused number ≡ check file
       unfolding ruleOr4
-      refused-or-4 rule number e other = ap refused e ∙ go (every rowFits (rows file)) (by-parts fits)
+      refused-or-4 rule number e other = ap refused e ∙ go (every stepFits (stepRecords file)) (by-parts fits)
         where
           go : (b : Bool) → broken4 file ≡ not b → refused (ruleOr4 b rule) ≡ check file
           go true four = other four
           go false four = refused-4 four
 
-      pub refused-child : (number : ℕ) → number ≡ ruleOr4 (every rowFits (rows file)) 5 → broken5 file ≡ true → refused number ≡ check file
+      pub refused-child : (number : ℕ) → number ≡ ruleOr4 (every stepFits (stepRecords file)) 5 → broken5 file ≡ true → refused number ≡ check file
       refused-child number e five = refused-or-4 5 number e (λ four. refused-5 four five)
 
       module _ (five : broken5 file ≡ false) where
-        pub refused-sum : (number : ℕ) → number ≡ ruleOr4 (every rowFits (rows file)) 6 → (b : Bool) → b ≡ eqb (summed (map owned (nodes file))) m → b ≡ false
+        pub refused-sum : (number : ℕ) → number ≡ ruleOr4 (every stepFits (stepRecords file)) 6 → (b : Bool) → b ≡ eqb (summed (map stepsOwned (nodes file))) m → b ≡ false
             → refused number ≡ check file
         refused-sum number e b g h = refused-or-4 6 number e (λ four. refused-6 four five (six-sum (k .frame) b g h))
 
         -- the leaves own all steps, and the walks through them have found this of rules 4, 6, 7 and 8
-        module _ (all : summed (map owned (nodes file)) ≡ m) {rule : ℕ} {effs ins : List ℕ} (found : LeavesFound file n rule effs ins) where
+        module _ (all : summed (map stepsOwned (nodes file)) ≡ m) {rule : ℕ} {effs ins : List ℕ} (found : LeavesFound file n rule effs ins) where
           rule-is : rule ≡ lowest (broken4 file) (broken6 file) (broken7 file) (broken8 file)
           rule-is = let a = sym (by-parts fits) in let b = sym (six-leaves (k .frame) all) in found .is ∙ λ i. lowest (a i) (b i) (broken7 file) (broken8 file)
 

@@ -1,4 +1,4 @@
--- What is known of the file once so many rules are found kept. Assumes nothing.
+-- What is known of the file once so many rules are found kept.
 use Prim.Native.Nat.{ℕ}
 use mathlib.Core.Path.{_≡_}
 use mathlib.Core.Bool.{false}

@@ -3,8 +3,8 @@
 ghost use mathlib.Core.Path.{_≡_};
 ghost use Rattle.spec_check.specs.Check.{check};
 ghost use Rattle.spec_check.specs.Interference.{leafEffects};
-ghost use Rattle.check_leaves.specs.Leaves.{insertsIn, Held};
-ghost use Rattle.check_policy.specs.Answers.{answered, numberOf};
+ghost use Rattle.check_leaves.specs.Leaves.{insertsIn, LeafValues};
+ghost use Rattle.check_policy.specs.Answers.{answered, refusalNumber};
 ghost use Rattle.check_policy.specs.Kept.{FrontKept, LeavesKept};
 use actions::ActionSet;
 use check_children::broken5;
@@ -28,8 +28,8 @@ pub enum Checked {
 }
 
 // The refusal's number. A check that passed has none, and no rule has number 0: it gives that.
-pub fn number(checked: Checked) -> u8
-    ensures { λ r. ⌜ r ≡ numberOf (answered checked) ⌝ }
+pub fn refusal_number(checked: Checked) -> u8
+    ensures { λ r. ⌜ r ≡ refusalNumber (answered checked) ⌝ }
 {
     match checked {
         Checked::Passed(_, _) => 0,
@@ -40,8 +40,8 @@ pub fn number(checked: Checked) -> u8
 // Rules 9 and 10, and the answer. What the leaves' walks have found is in `effects` and `inserts`.
 fn check_tree(policy: &[u8], n: usize, m: usize, effects: &mut [u64], inserts: &[u32]) -> Checked
     requires { ⌜ LeavesKept (now policy) n m ⌝ }
-    requires { ⌜ Held leafEffects (now policy) n (now effects) ⌝ }
-    requires { ⌜ Held insertsIn (now policy) n (now inserts) ⌝ }
+    requires { ⌜ LeafValues leafEffects (now policy) n (now effects) ⌝ }
+    requires { ⌜ LeafValues insertsIn (now policy) n (now inserts) ⌝ }
     ensures { λ r. ⌜ answered r ≡ check (now (policy .entry)) ⌝ }
 {
     let mut regulated = [0u64; MOST_NODES];

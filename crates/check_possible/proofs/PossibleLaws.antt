@@ -1,5 +1,5 @@
 -- What a step makes of what is possible at it: that a walk leaves alone what is
--- possible at an earlier step, unless that is a next. Assumes nothing.
+-- possible at an earlier step, unless that is a next.
 use Prim.Native.Nat.{ℕ, suc, _<_, _≤_}
 use native.Mathlib.Omega.{arith}
 use mathlib.Core.Path.{_≡_, refl, sym, ap, ap₂, _∙_, subst}

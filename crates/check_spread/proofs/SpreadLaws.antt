@@ -1,5 +1,5 @@
 -- Spreads cut off at 256: a pair's is made of its children's, and the root's tells rule 10.
--- Assumes nothing.
+--
 use Prim.Native.Nat.{ℕ, suc, _+_, _*_, _≤_, _<_}
 use native.Mathlib.Nat.{add-mul, mul-suc, mul-le-mul}
 use native.Mathlib.Omega.{arith}
@@ -13,17 +13,17 @@ use borrow.Author.Tests.{leb-true, leb-false, le-leb, lt-leb, eqb-true, eqb-fals
 use Rattle.spec_policy.specs.Bytes.{Bytes}
 use Rattle.spec_policy.specs.Records.{Node, nodeAt, mostNodes, nodePlace, nodeCount}
 use Rattle.spec_policy.specs.Steps.{Step, isIns}
-use Rattle.spec_policy.specs.Tree.{Way, parallel, sequential, NodeKind, aLeaf, aTrivial, anUnsatisfiable, aPair, noNode, nodeKind, places, Tree, leaf, trivial, unsatisfiable, node}
+use Rattle.spec_policy.specs.Tree.{Way, parallel, sequential, NodeKind, aLeaf, aTrivial, anUnsatisfiable, aPair, noNode, nodeKind, nodesWithSteps, Tree, leaf, trivial, unsatisfiable, node}
 use Rattle.spec_check.specs.Spread.{insCount, spreadOf, spread, narrow, broken10}
 use Rattle.spec_check.specs.Layout.{broken4}
 use Rattle.spec_check.specs.Children.{broken5}
 use Rattle.spec_check.specs.Targets.{broken6}
-use Rattle.spec_check.specs.Numbers.{placeIn, shaped}
+use Rattle.spec_check.specs.Numbers.{nodeStepsIn, shaped}
 use Rattle.spec_check.proofs.Numbers.{kind-read, tree-read, children-read, tree-top}
 use Rattle.spec_check.proofs.Rows.{leaf-steps}
 use Rattle.spec_policy.specs.Tree.{treeAt}
 use Rattle.check_layout.specs.Frame.{Framed}
-use Rattle.check_leaves.specs.Leaves.{insertsIn, Held}
+use Rattle.check_leaves.specs.Leaves.{insertsIn, LeafValues}
 use Rattle.check_spread.specs.Spreads.{cap, capped, cappedBy, cappedNode, Kept}
 use Rattle.spec_policy.proofs.ListLaws.{one-most}
 
@@ -160,13 +160,13 @@ pub record Here (file : Bytes) (n i place ins : ℕ) (caps : List ℕ) : Type 0 
   pub more : (v : ℕ) → v ≡ cappedNode (nodeAt file place) ins caps → KeptFrom file n i (set caps i v)
 
 module _ {file : Bytes} {n m : ℕ} (f : Framed file n m) (four : broken4 file ≡ false) (five : broken5 file ≡ false) (six : broken6 file ≡ false)
-    (held : List ℕ) (counts : Held insertsIn file n held) (i next place : ℕ) (caps : List ℕ) (up : next ≡ i + 1) (h : i < n) (p : place ≡ nodePlace i)
+    (held : List ℕ) (counts : LeafValues insertsIn file n held) (i next place : ℕ) (caps : List ℕ) (up : next ≡ i + 1) (h : i < n) (p : place ≡ nodePlace i)
     (kept : KeptFrom file n next caps) where
   abbrev x : Node
   x = nodeAt file place
 
   abbrev steps : List Step
-  steps = placeIn (places file) i .steps
+  steps = nodeStepsIn (nodesWithSteps file) i .steps
 
   inside : i < nodeCount file
   inside = omega arith

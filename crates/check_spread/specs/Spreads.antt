@@ -1,4 +1,4 @@
--- Spreads as the code keeps them, where none is above 256. Assumes nothing.
+-- Spreads as the code keeps them, where none is above 256.
 use Prim.Native.Nat.{ℕ, _≤_, _<_}
 use mathlib.Core.Path.{_≡_}
 use mathlib.Core.Bool.{true, false}

@@ -11,7 +11,7 @@ ghost use Rattle.spec_check.specs.Children.{broken5};
 ghost use Rattle.spec_check.specs.Targets.{broken6};
 ghost use Rattle.spec_check.specs.Spread.{spreadOf, broken10};
 ghost use Rattle.check_layout.specs.Frame.{Framed};
-ghost use Rattle.check_leaves.specs.Leaves.{insertsIn, Held};
+ghost use Rattle.check_leaves.specs.Leaves.{insertsIn, LeafValues};
 ghost use Rattle.check_spread.specs.Spreads.{cap, cappedNode, Kept};
 use file_records::Kind;
 use file_records::MOST_NODES;
@@ -63,7 +63,7 @@ pub fn broken10(policy: &[u8], n: usize, m: usize, inserts: &[u32]) -> bool
     requires { ⌜ broken4 (now policy) ≡ false ⌝ }
     requires { ⌜ broken5 (now policy) ≡ false ⌝ }
     requires { ⌜ broken6 (now policy) ≡ false ⌝ }
-    requires { ⌜ Held insertsIn (now policy) n (now inserts) ⌝ }
+    requires { ⌜ LeafValues insertsIn (now policy) n (now inserts) ⌝ }
     ensures { λ r. ⌜ r ≡ broken10 (now (policy .entry)) ⌝ }
 {
     let mut caps = [0u32; MOST_NODES];

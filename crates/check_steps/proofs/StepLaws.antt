@@ -1,4 +1,4 @@
--- What a step of each kind gives, put together. Assumes nothing.
+-- What a step of each kind gives, put together.
 use Prim.Native.Nat.{ℕ, _+_, _<_, _≤_}
 use native.Mathlib.Omega.{arith}
 use native.Mathlib.Nat.{add-zero}

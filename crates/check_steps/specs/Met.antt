@@ -1,4 +1,4 @@
--- What the walk through a leaf finds at one step. Assumes nothing.
+-- What the walk through a leaf finds at one step.
 use Prim.Native.Nat.{ℕ, _+_, _≤_, _<_}
 use mathlib.Core.Path.{_≡_}
 use mathlib.Core.Bool.{true, _&&_, _||_}

@@ -1,5 +1,5 @@
 -- Rule 6 as the code tests it: a target by its number and the nexts before it, a step by its targets, and the steps of a leaf one after the other.
--- Assumes nothing.
+--
 use Prim.Native.Nat.{ℕ, _+_, _-_, _*_, _≤_, _<_}
 use native.Mathlib.Omega.{arith}
 use mathlib.Core.Path.{_≡_, refl, sym, ap, _∙_, subst}
@@ -11,7 +11,7 @@ use borrow.Author.Tests.{lt-ltb, le-ltb}
 use Rattle.actions.specs.Sets.{ActionSet, has, within}
 use Rattle.actions.proofs.Tests.{and-intro, and-left, and-right}
 use Rattle.spec_policy.specs.Bytes.{Bytes}
-use Rattle.spec_policy.specs.Records.{rowAt}
+use Rattle.spec_policy.specs.Records.{stepRecordAt}
 use Rattle.spec_policy.specs.Lists.{listed, every, everyAt}
 use Rattle.spec_policy.specs.Steps.{Step, next, ok, sup, ins, acase, spend, end, halt, stepOf, targets, isNext}
 use Rattle.spec_policy.proofs.ListLaws.{everyAt-rest, everyAt-over}
@@ -73,19 +73,19 @@ module _ (r : ActionSet) (code : List Step) (o : ℕ) where
 
 module _ (r : ActionSet) (file : Bytes) (at count : ℕ) where
   unfoldable pub fitFrom : ℕ → Bool
-  fitFrom o = everyAt (stepTest r (codeAt file at count)) o (listed (λ k. stepOf (rowAt file (at + 12 * k))) o (count - o))
+  fitFrom o = everyAt (stepTest r (codeAt file at count)) o (listed (λ k. stepOf (stepRecordAt file (at + 12 * k))) o (count - o))
 
   pub fit-whole : targetsFit r (codeAt file at count) ≡ fitFrom 0
   unfolding fitFrom targetsFit codeAt
-  fit-whole = let z : count ≡ count - 0 = omega arith in ap (λ (n : ℕ). everyAt (stepTest r (codeAt file at count)) 0 (listed (λ k. stepOf (rowAt file (at + 12 * k))) 0 n)) z
+  fit-whole = let z : count ≡ count - 0 = omega arith in ap (λ (n : ℕ). everyAt (stepTest r (codeAt file at count)) 0 (listed (λ k. stepOf (stepRecordAt file (at + 12 * k))) 0 n)) z
 
-  pub fit-rest : (o : ℕ) → o < count → fitFrom o ≡ (stepTest r (codeAt file at count) o (stepOf (rowAt file (at + 12 * o))) && fitFrom (o + 1))
+  pub fit-rest : (o : ℕ) → o < count → fitFrom o ≡ (stepTest r (codeAt file at count) o (stepOf (stepRecordAt file (at + 12 * o))) && fitFrom (o + 1))
   unfolding fitFrom
-  fit-rest o h = everyAt-rest (stepTest r (codeAt file at count)) (λ k. stepOf (rowAt file (at + 12 * k))) o count h
+  fit-rest o h = everyAt-rest (stepTest r (codeAt file at count)) (λ k. stepOf (stepRecordAt file (at + 12 * k))) o count h
 
   pub fit-over : (o : ℕ) → count ≤ o → fitFrom o ≡ true
   unfolding fitFrom
-  fit-over o h = everyAt-over (stepTest r (codeAt file at count)) (λ k. stepOf (rowAt file (at + 12 * k))) o count h
+  fit-over o h = everyAt-over (stepTest r (codeAt file at count)) (λ k. stepOf (stepRecordAt file (at + 12 * k))) o count h
 
 -- ---- what fits lies inside
 

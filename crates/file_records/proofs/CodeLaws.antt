@@ -1,5 +1,5 @@
 -- A leaf's steps by where they lie: how many they are, which one stands at an offset, that its kind byte tells a next, and that a
--- node's steps are those from its first on. Assumes nothing.
+-- node's steps are those from its first on.
 use Prim.Native.Nat.{ℕ, zero, suc, _+_, _*_, _≤_, _<_}
 use native.Mathlib.Omega.{arith}
 use mathlib.Core.Path.{_≡_, refl, sym, ap, _∙_}
@@ -10,9 +10,9 @@ use lib.Seq.{length-take-le, getD-take, getD-drop, ext-getD}
 use borrow.Author.Tests.{ne-eqb}
 use Rattle.spec_policy.specs.Bytes.{Bytes, number}
 use Rattle.spec_policy.specs.Lists.{listed, summed}
-use Rattle.spec_policy.specs.Records.{stepSize, nodeAt, nodePlace, nodeCount, stepCount, nodes, rowAt, rowPlace, rows}
+use Rattle.spec_policy.specs.Records.{stepSize, nodeAt, nodePlace, nodeCount, stepCount, nodes, stepRecordAt, stepPlace, stepRecords}
 use Rattle.spec_policy.specs.Steps.{Step, halt, stepOf, isNext}
-use Rattle.spec_policy.specs.Tree.{owned, firstStep, noPlace, places}
+use Rattle.spec_policy.specs.Tree.{stepsOwned, firstStep, noNodeSteps, nodesWithSteps}
 use Rattle.spec_policy.proofs.ListLaws.{listed-length, listed-at, map-listed}
 use Rattle.spec_policy.proofs.NodeLaws.{first-in, steps-of}
 use Rattle.file_records.specs.Code.{codeAt, codeFrom}
@@ -20,20 +20,20 @@ use Rattle.file_records.specs.Code.{codeAt, codeFrom}
 module _ (file : Bytes) (at count : ℕ) where
   pub code-length : length (codeAt file at count) ≡ count
   unfolding codeAt
-  code-length = listed-length (λ o. stepOf (rowAt file (at + 12 * o))) 0 count
+  code-length = listed-length (λ o. stepOf (stepRecordAt file (at + 12 * o))) 0 count
 
-  pub code-at : (o : ℕ) → o < count → getD (codeAt file at count) o halt ≡ stepOf (rowAt file (at + 12 * o))
+  pub code-at : (o : ℕ) → o < count → getD (codeAt file at count) o halt ≡ stepOf (stepRecordAt file (at + 12 * o))
   unfolding codeAt
   code-at o h =
       let z : 0 + o ≡ o = omega arith in
-      listed-at (λ o. stepOf (rowAt file (at + 12 * o))) 0 count halt o h ∙ ap (λ (k : ℕ). stepOf (rowAt file (at + 12 * k))) z
+      listed-at (λ o. stepOf (stepRecordAt file (at + 12 * o))) 0 count halt o h ∙ ap (λ (k : ℕ). stepOf (stepRecordAt file (at + 12 * k))) z
 
 -- the same by the number of the step
-pub code-number : (file : Bytes) (first count o : ℕ) → o < count → getD (codeFrom file first count) o halt ≡ stepOf (rowAt file (nodePlace (nodeCount file) + stepSize * (first + o)))
-unfolding rowPlace
+pub code-number : (file : Bytes) (first count o : ℕ) → o < count → getD (codeFrom file first count) o halt ≡ stepOf (stepRecordAt file (nodePlace (nodeCount file) + stepSize * (first + o)))
+unfolding stepPlace
 code-number file first count o h =
-    let z : rowPlace file first + stepSize * o ≡ nodePlace (nodeCount file) + stepSize * (first + o) = omega arith in
-    code-at file (rowPlace file first) count o h ∙ ap (λ (k : ℕ). stepOf (rowAt file k)) z
+    let z : stepPlace file first + stepSize * o ≡ nodePlace (nodeCount file) + stepSize * (first + o) = omega arith in
+    code-at file (stepPlace file first) count o h ∙ ap (λ (k : ℕ). stepOf (stepRecordAt file k)) z
 
 -- only kind 1 is a next
 kind-next : (kind action first second operand : ℕ)
@@ -50,15 +50,15 @@ kind-next (suc (suc (suc (suc (suc (suc (suc zero))))))) a f s o = refl
 kind-next (suc (suc (suc (suc (suc (suc (suc (suc zero)))))))) a f s o = refl
 kind-next (suc (suc (suc (suc (suc (suc (suc (suc (suc k))))))))) a f s o = sym (ne-eqb (suc (suc (suc (suc (suc (suc (suc (suc (suc k))))))))) 1 (λ e. omega arith))
 
-pub next-kind : (file : Bytes) (at : ℕ) → isNext (stepOf (rowAt file at)) ≡ eqb (number file at 1) 1
-unfolding rowAt
+pub next-kind : (file : Bytes) (at : ℕ) → isNext (stepOf (stepRecordAt file at)) ≡ eqb (number file at 1) 1
+unfolding stepRecordAt
 next-kind file at = kind-next (number file at 1) (number file (at + 1) 1) (number file (at + 2) 1) (number file (at + 3) 1) (number file (at + 4) 8)
 
 -- ---- a run of the file's steps
 
 module _ (file : Bytes) (first count : ℕ) (h : first + count ≤ stepCount file) where
   abbrev stepNo : ℕ → Step
-  stepNo k = stepOf (rowAt file (rowPlace file k))
+  stepNo k = stepOf (stepRecordAt file (stepPlace file k))
 
   abbrev run : List Step
   run = take count (drop first (listed stepNo 0 (stepCount file)))
@@ -68,20 +68,20 @@ module _ (file : Bytes) (first count : ℕ) (h : first + count ≤ stepCount fil
       length-take-le count (drop first (listed stepNo 0 (stepCount file)))
       (omega (arith, length-drop first (listed stepNo 0 (stepCount file)), listed-length stepNo 0 (stepCount file)))
 
-  run-at : (o : ℕ) → o < count → getD run o halt ≡ getD (codeAt file (rowPlace file first) count) o halt
-  unfolding rowPlace
+  run-at : (o : ℕ) → o < count → getD run o halt ≡ getD (codeAt file (stepPlace file first) count) o halt
+  unfolding stepPlace
   run-at o l =
-      let z : rowPlace file (0 + (first + o)) ≡ rowPlace file first + 12 * o = omega arith in
+      let z : stepPlace file (0 + (first + o)) ≡ stepPlace file first + 12 * o = omega arith in
       getD-take count (drop first (listed stepNo 0 (stepCount file))) o halt l ∙ getD-drop first (listed stepNo 0 (stepCount file)) o halt
       ∙ listed-at stepNo 0 (stepCount file) halt (first + o) (omega arith)
-      ∙ ap (λ (k : ℕ). stepOf (rowAt file k)) z ∙ sym (code-at file (rowPlace file first) count o l)
+      ∙ ap (λ (k : ℕ). stepOf (stepRecordAt file k)) z ∙ sym (code-at file (stepPlace file first) count o l)
 
-  run-code : take count (drop first (map stepOf (rows file))) ≡ codeAt file (rowPlace file first) count
-  unfolding rows
+  run-code : take count (drop first (map stepOf (stepRecords file))) ≡ codeAt file (stepPlace file first) count
+  unfolding stepRecords
   run-code =
-      ap (λ (ss : List Step). take count (drop first ss)) (map-listed stepOf (λ k. rowAt file (rowPlace file k)) 0 (stepCount file))
-      ∙ ext-getD halt run (codeAt file (rowPlace file first) count) (run-length ∙ sym (code-length file (rowPlace file first) count)) (λ o l. run-at o (omega (arith, run-length)))
+      ap (λ (ss : List Step). take count (drop first ss)) (map-listed stepOf (λ k. stepRecordAt file (stepPlace file k)) 0 (stepCount file))
+      ∙ ext-getD halt run (codeAt file (stepPlace file first) count) (run-length ∙ sym (code-length file (stepPlace file first) count)) (λ o l. run-at o (omega (arith, run-length)))
 
-pub node-code : (file : Bytes) → summed (map owned (nodes file)) ≡ stepCount file → (i : ℕ) → i < nodeCount file
-    → getD (places file) i noPlace .steps ≡ codeAt file (rowPlace file (firstStep file i)) (owned (nodeAt file (nodePlace i)))
-node-code file all i h = steps-of file i h ∙ run-code file (firstStep file i) (owned (nodeAt file (nodePlace i))) (omega (arith, first-in file i h))
+pub node-code : (file : Bytes) → summed (map stepsOwned (nodes file)) ≡ stepCount file → (i : ℕ) → i < nodeCount file
+    → getD (nodesWithSteps file) i noNodeSteps .steps ≡ codeAt file (stepPlace file (firstStep file i)) (stepsOwned (nodeAt file (nodePlace i)))
+node-code file all i h = steps-of file i h ∙ run-code file (firstStep file i) (stepsOwned (nodeAt file (nodePlace i))) (omega (arith, first-in file i h))

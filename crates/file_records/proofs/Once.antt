@@ -1,4 +1,4 @@
--- An enum is known by its meaning: no two values of a node's kind mean the same. Assumes nothing.
+-- An enum is known by its meaning: no two values of a node's kind mean the same.
 use mathlib.Core.Path.{_≡_, refl, sym, ap, _∙_}
 use Rattle.spec_policy.specs.Tree as tree
 use Rattle.file_records.specs.declared.Way.{Way}

@@ -1,8 +1,8 @@
--- A record's kind: what it is where the kind byte is known, or known to be none of the kinds. Assumes nothing.
+-- A record's kind: what it is where the kind byte is known, or known to be none of the kinds.
 use Prim.Native.Nat.{ℕ, zero, suc, _+_}
 use mathlib.Core.Path.{_≡_, refl, ap, _∙_}
 use Rattle.spec_policy.specs.Bytes.{Bytes, number}
-use Rattle.spec_policy.specs.Records.{Row, rowAt}
+use Rattle.spec_policy.specs.Records.{StepRecord, stepRecordAt}
 use Rattle.spec_policy.specs.Steps.{Step, next, ok, sup, ins, acase, spend, end, halt, stepOf}
 use Rattle.spec_policy.specs.Tree.{noNode, nodeKind}
 use Rattle.file_records.specs.declared.Step as values
@@ -21,8 +21,8 @@ none-of-seven (suc (suc (suc (suc (suc (suc (suc zero))))))) a b c d e f g = abs
 none-of-seven (suc (suc (suc (suc (suc (suc (suc (suc k)))))))) a b c d e f g = refl
 
 -- the row at a place, with k for its kind
-abbrev pub rowWith : Bytes → ℕ → ℕ → Row
-rowWith file at k = record {
+abbrev pub stepRecordWith : Bytes → ℕ → ℕ → StepRecord
+stepRecordWith file at k = record {
   kind = k;
   action = number file (at + 1) 1;
   first = number file (at + 2) 1;
@@ -30,11 +30,11 @@ rowWith file at k = record {
   operand = number file (at + 4) 8;
 }
 
-pub of-kind : (file : Bytes) (at k : ℕ) → k ≡ number file at 1 → stepOf (rowWith file at k) ≡ stepOf (rowAt file at)
-unfolding rowAt
-of-kind file at k e = ap (λ (x : ℕ). stepOf (rowWith file at x)) e
+pub of-kind : (file : Bytes) (at k : ℕ) → k ≡ number file at 1 → stepOf (stepRecordWith file at k) ≡ stepOf (stepRecordAt file at)
+unfolding stepRecordAt
+of-kind file at k e = ap (λ (x : ℕ). stepOf (stepRecordWith file at x)) e
 
-pub steps-else : (r : Row) → (r .kind ≡ 1 → ⊥) → (r .kind ≡ 2 → ⊥) → (r .kind ≡ 3 → ⊥) → (r .kind ≡ 4 → ⊥) → (r .kind ≡ 5 → ⊥) → (r .kind ≡ 6 → ⊥)
+pub steps-else : (r : StepRecord) → (r .kind ≡ 1 → ⊥) → (r .kind ≡ 2 → ⊥) → (r .kind ≡ 3 → ⊥) → (r .kind ≡ 4 → ⊥) → (r .kind ≡ 5 → ⊥) → (r .kind ≡ 6 → ⊥)
     → (r .kind ≡ 7 → ⊥) → stepOf r ≡ halt
 unfolding stepOf
 steps-else r = go (r .kind)
@@ -53,7 +53,7 @@ steps-else r = go (r .kind)
     go (suc (suc (suc (suc (suc (suc (suc (suc (suc k))))))))) a b c d e f g = refl
 
 -- what holds of each kind of step, and of a halt whatever its kind byte is, holds of the step that is read
-pub by-kind : (P : ℕ → Step → Type 0) (r : Row) → P 1 (next (r .first) (r .second)) → P 2 (ok (r .first)) → P 3 (sup (r .first))
+pub by-kind : (P : ℕ → Step → Type 0) (r : StepRecord) → P 1 (next (r .first) (r .second)) → P 2 (ok (r .first)) → P 3 (sup (r .first))
     → P 4 (ins (r .action) (r .first)) → P 5 (acase (r .operand) (r .first) (r .second)) → P 6 (spend (r .operand) (r .first) (r .second)) → P 7 end
     → ((k : ℕ) → P k halt) → P (r .kind) (stepOf r)
 unfolding stepOf

@@ -1,4 +1,4 @@
--- Bytes put together by shifts: the number that they spell. Assumes nothing.
+-- Bytes put together by shifts: the number that they spell.
 use Prim.Native.Nat.{ℕ, _+_, _*_, _%_, _^_, _≤_, _<_}
 use native.Mathlib.Omega.{arith}
 use native.Mathlib.Nat.{add-mul, mul-assoc}

@@ -1,4 +1,4 @@
--- What the code's enums stand for, case by case: document 01's kinds of nodes and of steps. Assumes nothing.
+-- What the code's enums stand for, case by case: document 01's kinds of nodes and of steps.
 use Rattle.spec_policy.specs.Tree as tree
 use Rattle.spec_policy.specs.Steps as steps
 use Rattle.file_records.specs.declared.Way.{Way}

@@ -4,7 +4,7 @@ ghost use mathlib.Core.Path.{_≡_};
 ghost use Prim.Native.Nat.{_+_, _*_, _≤_, _<_};
 ghost use lib.ListN.{length};
 ghost use Rattle.spec_policy.specs.Bytes.{number};
-ghost use Rattle.spec_policy.specs.Records.{frontSize, nodeSize, stepSize, nodeCount, stepCount, nodePlace, nodeAt, rowAt};
+ghost use Rattle.spec_policy.specs.Records.{frontSize, nodeSize, stepSize, nodeCount, stepCount, nodePlace, nodeAt, stepRecordAt};
 ghost use Rattle.spec_policy.specs.Steps.{stepOf};
 ghost use Rattle.spec_policy.specs.Tree.{nodeKind};
 ghost use Rattle.file_records.specs.Kinds.{kindOf, stepValue};
@@ -253,7 +253,7 @@ pub enum Step {
 
 pub fn step_at(policy: &[u8], at: usize) -> Step
     requires { ⌜ at + stepSize ≤ length (now policy) ⌝ }
-    ensures { λ r. ⌜ r ≡ stepValue (stepOf (rowAt (now (policy .entry)) at)) ⌝ }
+    ensures { λ r. ⌜ r ≡ stepValue (stepOf (stepRecordAt (now (policy .entry)) at)) ⌝ }
 {
     let k = byte(policy, at);
     let first = byte(policy, at + 2);

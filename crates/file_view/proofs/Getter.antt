@@ -3,7 +3,7 @@
 --     R, τ, typed      the result's type, its one MIR type, and that a machine value of it has that type
 --     Q                what the reader says of the file, the place and the result, and so what the getter says
 --     reader           the name by which MIR calls the reader
--- Assumes nothing.
+--
 use mathlib.Core.Path.{_≡_, refl}
 use Prim.Native.Nat.{ℕ, _<_, _≤_, _+_, _^_}
 use mathlib.Core.List.{List, [], _∷_}

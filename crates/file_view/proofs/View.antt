@@ -1,4 +1,4 @@
--- What a walk over a policy view uses. The view is Copy, so what its file owns is had beside all that the view owns: the one is passed on, the other kept for the exit. Assumes nothing.
+-- What a walk over a policy view uses. The view is Copy, so what its file owns is had beside all that the view owns: the one is passed on, the other kept for the exit.
 --     Own, File        what a view owns, and what its file owns
 --     file-beside      Own ⊢ File ∗ Own
 use mathlib.Core.Path.{_≡_}

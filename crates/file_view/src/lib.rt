@@ -4,7 +4,7 @@
 ghost use mathlib.Core.Path.{_≡_};
 ghost use Prim.Native.Nat.{_+_, _*_, _≤_, _<_};
 ghost use lib.ListN.{length};
-ghost use Rattle.spec_policy.specs.Records.{frontSize, nodeCount, stepCount, nodeSize, stepSize, nodePlace, nodeAt, rowAt};
+ghost use Rattle.spec_policy.specs.Records.{frontSize, nodeCount, stepCount, nodeSize, stepSize, nodePlace, nodeAt, stepRecordAt};
 ghost use Rattle.spec_policy.specs.Steps.{stepOf};
 ghost use Rattle.spec_policy.specs.Tree.{nodeKind};
 ghost use Rattle.file_records.specs.Kinds.{kindOf, stepValue};
@@ -93,56 +93,56 @@ pub fn set<'a>(view: PolicyView<'a>, node: usize) -> ActionSet
 // The steps' records begin where the nodes' end.
 fn step_in(file: &[u8], nodes: usize, number: usize) -> Step
     requires { ⌜ (nodes ≤ 255) × (nodePlace nodes + stepSize * number + stepSize ≤ length (now file)) ⌝ }
-    ensures { λ r. ⌜ r ≡ stepValue (stepOf (rowAt (now (file .entry)) (nodePlace nodes + stepSize * number))) ⌝ }
+    ensures { λ r. ⌜ r ≡ stepValue (stepOf (stepRecordAt (now (file .entry)) (nodePlace nodes + stepSize * number))) ⌝ }
 {
     step_at(file, node_place(nodes) + STEP_SIZE * number)
 }
 
 fn step_kind_in(file: &[u8], nodes: usize, number: usize) -> u8
     requires { ⌜ (nodes ≤ 255) × (nodePlace nodes + stepSize * number + stepSize ≤ length (now file)) ⌝ }
-    ensures { λ r. ⌜ r ≡ rowAt (now (file .entry)) (nodePlace nodes + stepSize * number) .kind ⌝ }
+    ensures { λ r. ⌜ r ≡ stepRecordAt (now (file .entry)) (nodePlace nodes + stepSize * number) .kind ⌝ }
 {
     byte(file, node_place(nodes) + STEP_SIZE * number)
 }
 
 fn step_first_in(file: &[u8], nodes: usize, number: usize) -> u8
     requires { ⌜ (nodes ≤ 255) × (nodePlace nodes + stepSize * number + stepSize ≤ length (now file)) ⌝ }
-    ensures { λ r. ⌜ r ≡ rowAt (now (file .entry)) (nodePlace nodes + stepSize * number) .first ⌝ }
+    ensures { λ r. ⌜ r ≡ stepRecordAt (now (file .entry)) (nodePlace nodes + stepSize * number) .first ⌝ }
 {
     byte(file, node_place(nodes) + STEP_SIZE * number + 2)
 }
 
 fn step_second_in(file: &[u8], nodes: usize, number: usize) -> u8
     requires { ⌜ (nodes ≤ 255) × (nodePlace nodes + stepSize * number + stepSize ≤ length (now file)) ⌝ }
-    ensures { λ r. ⌜ r ≡ rowAt (now (file .entry)) (nodePlace nodes + stepSize * number) .second ⌝ }
+    ensures { λ r. ⌜ r ≡ stepRecordAt (now (file .entry)) (nodePlace nodes + stepSize * number) .second ⌝ }
 {
     byte(file, node_place(nodes) + STEP_SIZE * number + 3)
 }
 
 pub fn step<'a>(view: PolicyView<'a>, number: usize) -> Step
     requires { ⌜ (view .nodes ≤ 255) × (nodePlace (view .nodes) + stepSize * number + stepSize ≤ length (now (view .file))) ⌝ }
-    ensures { λ r. ⌜ r ≡ stepValue (stepOf (rowAt (now (view .entry .file)) (nodePlace (view .entry .nodes) + stepSize * number))) ⌝ }
+    ensures { λ r. ⌜ r ≡ stepValue (stepOf (stepRecordAt (now (view .entry .file)) (nodePlace (view .entry .nodes) + stepSize * number))) ⌝ }
 {
     step_in(view.file, view.nodes, number)
 }
 
 pub fn step_kind<'a>(view: PolicyView<'a>, number: usize) -> u8
     requires { ⌜ (view .nodes ≤ 255) × (nodePlace (view .nodes) + stepSize * number + stepSize ≤ length (now (view .file))) ⌝ }
-    ensures { λ r. ⌜ r ≡ rowAt (now (view .entry .file)) (nodePlace (view .entry .nodes) + stepSize * number) .kind ⌝ }
+    ensures { λ r. ⌜ r ≡ stepRecordAt (now (view .entry .file)) (nodePlace (view .entry .nodes) + stepSize * number) .kind ⌝ }
 {
     step_kind_in(view.file, view.nodes, number)
 }
 
 pub fn step_first<'a>(view: PolicyView<'a>, number: usize) -> u8
     requires { ⌜ (view .nodes ≤ 255) × (nodePlace (view .nodes) + stepSize * number + stepSize ≤ length (now (view .file))) ⌝ }
-    ensures { λ r. ⌜ r ≡ rowAt (now (view .entry .file)) (nodePlace (view .entry .nodes) + stepSize * number) .first ⌝ }
+    ensures { λ r. ⌜ r ≡ stepRecordAt (now (view .entry .file)) (nodePlace (view .entry .nodes) + stepSize * number) .first ⌝ }
 {
     step_first_in(view.file, view.nodes, number)
 }
 
 pub fn step_second<'a>(view: PolicyView<'a>, number: usize) -> u8
     requires { ⌜ (view .nodes ≤ 255) × (nodePlace (view .nodes) + stepSize * number + stepSize ≤ length (now (view .file))) ⌝ }
-    ensures { λ r. ⌜ r ≡ rowAt (now (view .entry .file)) (nodePlace (view .entry .nodes) + stepSize * number) .second ⌝ }
+    ensures { λ r. ⌜ r ≡ stepRecordAt (now (view .entry .file)) (nodePlace (view .entry .nodes) + stepSize * number) .second ⌝ }
 {
     step_second_in(view.file, view.nodes, number)
 }
@@ -194,28 +194,28 @@ pub fn view_set(policy: &[u8], node: usize) -> ActionSet
 
 pub fn view_step(policy: &[u8], number: usize) -> Step
     requires { ⌜ (nodeCount (now policy) ≤ 255) × (nodePlace (nodeCount (now policy)) + stepSize * number + stepSize ≤ length (now policy)) ⌝ }
-    ensures { λ r. ⌜ r ≡ stepValue (stepOf (rowAt (now (policy .entry)) (nodePlace (nodeCount (now (policy .entry))) + stepSize * number))) ⌝ }
+    ensures { λ r. ⌜ r ≡ stepValue (stepOf (stepRecordAt (now (policy .entry)) (nodePlace (nodeCount (now (policy .entry))) + stepSize * number))) ⌝ }
 {
     step(view_of(policy), number)
 }
 
 pub fn view_step_kind(policy: &[u8], number: usize) -> u8
     requires { ⌜ (nodeCount (now policy) ≤ 255) × (nodePlace (nodeCount (now policy)) + stepSize * number + stepSize ≤ length (now policy)) ⌝ }
-    ensures { λ r. ⌜ r ≡ rowAt (now (policy .entry)) (nodePlace (nodeCount (now (policy .entry))) + stepSize * number) .kind ⌝ }
+    ensures { λ r. ⌜ r ≡ stepRecordAt (now (policy .entry)) (nodePlace (nodeCount (now (policy .entry))) + stepSize * number) .kind ⌝ }
 {
     step_kind(view_of(policy), number)
 }
 
 pub fn view_step_first(policy: &[u8], number: usize) -> u8
     requires { ⌜ (nodeCount (now policy) ≤ 255) × (nodePlace (nodeCount (now policy)) + stepSize * number + stepSize ≤ length (now policy)) ⌝ }
-    ensures { λ r. ⌜ r ≡ rowAt (now (policy .entry)) (nodePlace (nodeCount (now (policy .entry))) + stepSize * number) .first ⌝ }
+    ensures { λ r. ⌜ r ≡ stepRecordAt (now (policy .entry)) (nodePlace (nodeCount (now (policy .entry))) + stepSize * number) .first ⌝ }
 {
     step_first(view_of(policy), number)
 }
 
 pub fn view_step_second(policy: &[u8], number: usize) -> u8
     requires { ⌜ (nodeCount (now policy) ≤ 255) × (nodePlace (nodeCount (now policy)) + stepSize * number + stepSize ≤ length (now policy)) ⌝ }
-    ensures { λ r. ⌜ r ≡ rowAt (now (policy .entry)) (nodePlace (nodeCount (now (policy .entry))) + stepSize * number) .second ⌝ }
+    ensures { λ r. ⌜ r ≡ stepRecordAt (now (policy .entry)) (nodePlace (nodeCount (now (policy .entry))) + stepSize * number) .second ⌝ }
 {
     step_second(view_of(policy), number)
 }

@@ -1,4 +1,4 @@
--- A file laid over other bytes, piece after piece, and the writer's answers in their order. Assumes nothing.
+-- A file laid over other bytes, piece after piece, and the writer's answers in their order.
 use Prim.Native.Nat.{ℕ, _+_, _*_, _-_, _≤_, _<_}
 use native.Mathlib.Omega.{arith}
 use mathlib.Core.Path.{_≡_, refl, sym, ap, _∙_, subst}

@@ -1,4 +1,4 @@
--- What the writer's enum stands for: the length of the file, or the refusal's number. Assumes nothing.
+-- What the writer's enum stands for: the length of the file, or the refusal's number.
 use mathlib.Core.Path.{_≡_}
 use Rattle.spec_policy.specs.Bytes.{Bytes}
 use Rattle.spec_writer.specs.Writing.{Reply, wrote, refuses, Result}

@@ -12,7 +12,7 @@ ghost use Rattle.file_writer.specs.Replies.{Gave};
 ghost use Rattle.spec_policy.specs.Records.{mostFile};
 use check_policy::Checked;
 use check_policy::check;
-use check_policy::number;
+use check_policy::refusal_number;
 use file_records::FRONT_SIZE;
 use file_records::MOST_FILE;
 use file_records::MOST_NODES;
@@ -101,7 +101,7 @@ pub fn write(nodes: &[u8], steps: &[u8], out: &mut [u8]) -> Written
     }
     let checked = check_laid(nodes, steps);
     let Checked::Passed(_, _) = checked else {
-        return Written::Refused(number(checked));
+        return Written::Refused(refusal_number(checked));
     };
     let length = size(nodes, steps);
     if out.len() < length {

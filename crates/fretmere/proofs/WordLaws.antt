@@ -1,4 +1,4 @@
--- An answer and the word that stands for it. Assumes nothing.
+-- An answer and the word that stands for it.
 use Prim.Native.Nat.{ℕ, _+_, _*_}
 use native.Mathlib.Omega.{arith}
 use mathlib.Core.Path.{_≡_, refl, sym, ap, subst}

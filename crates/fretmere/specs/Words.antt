@@ -1,4 +1,4 @@
--- What the C functions return: the entry points' answers, each in one word. Assumes nothing.
+-- What the C functions return: the entry points' answers, each in one word.
 use Prim.Native.Nat.{ℕ, _+_, _*_, _≤_}
 use mathlib.Core.Path.{_≡_}
 use Rattle.spec_policy.specs.Bytes.{Bytes}

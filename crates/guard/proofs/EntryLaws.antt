@@ -1,4 +1,4 @@
--- The entry points: the refusals in their order, and what is carried out where none applies. Assumes nothing.
+-- The entry points: the refusals in their order, and what is carried out where none applies.
 use Prim.Native.Nat.{ℕ, _≤_, _<_}
 use mathlib.Core.Path.{_≡_, refl, sym, ap, _∙_, subst}
 use mathlib.Core.Bool.{true, false, not}

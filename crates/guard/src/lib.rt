@@ -11,7 +11,7 @@ use call_refusals::broken12;
 use call_refusals::broken14;
 use check_policy::Checked;
 use check_policy::check;
-use check_policy::number;
+use check_policy::refusal_number;
 
 // Opens the policy: the state buffer need hold nothing beforehand.
 pub fn open(policy: &[u8], state: &mut [u8], events: &mut [u8]) -> Answer
@@ -19,7 +19,7 @@ pub fn open(policy: &[u8], state: &mut [u8], events: &mut [u8]) -> Answer
 {
     let checked = check(policy);
     let Checked::Passed(_, _) = checked else {
-        return Answer::Refused(number(checked));
+        return Answer::Refused(refusal_number(checked));
     };
     if broken11(state, events) {
         return Answer::Refused(11);
@@ -33,7 +33,7 @@ pub fn offer(policy: &[u8], state: &mut [u8], events: &mut [u8], action: u8) -> 
 {
     let checked = check(policy);
     let Checked::Passed(set, _) = checked else {
-        return Answer::Refused(number(checked));
+        return Answer::Refused(refusal_number(checked));
     };
     if broken11(state, events) {
         return Answer::Refused(11);
@@ -57,7 +57,7 @@ pub fn close(policy: &[u8], state: &mut [u8], events: &mut [u8]) -> Answer
 {
     let checked = check(policy);
     let Checked::Passed(_, _) = checked else {
-        return Answer::Refused(number(checked));
+        return Answer::Refused(refusal_number(checked));
     };
     if broken11(state, events) {
         return Answer::Refused(11);

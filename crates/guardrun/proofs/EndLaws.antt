@@ -1,4 +1,4 @@
--- Laws of the policy's end among the bytes read. Assumes nothing.
+-- Laws of the policy's end among the bytes read.
 use Prim.Native.Nat.{ℕ, _+_, _-_, _≤_, _<_}
 use native.Mathlib.Omega.{arith}
 use mathlib.Core.Path.{_≡_, refl, ap, sym, _∙_}

@@ -1,4 +1,4 @@
--- What is said of a call, from what is said of its answer. Assumes nothing.
+-- What is said of a call, from what is said of its answer.
 use Prim.Native.Nat.{ℕ}
 use mathlib.Core.Path.{_≡_, sym, ap₂, _∙_, subst}
 use Rattle.spec_policy.specs.Bytes.{Bytes}

@@ -1,4 +1,4 @@
--- What guardrun prints of a whole run. Assumes nothing.
+-- What guardrun prints of a whole run.
 use Prim.Native.Nat.{ℕ}
 use mathlib.Core.Bool.{true, false}
 use mathlib.Core.List.{List, [], _∷_, _++_}

@@ -1,4 +1,4 @@
--- What the code says of a call. Assumes nothing.
+-- What the code says of a call.
 use mathlib.Core.Path.{_≡_}
 use Rattle.spec_policy.specs.Bytes.{Bytes}
 use Rattle.spec_turns.specs.Turn.{Request}

@@ -1,4 +1,4 @@
--- Document 01's run of guardrun, and one for each of its other sentences: one list, one statement. Assumes nothing.
+-- Document 01's run of guardrun, and one for each of its other sentences: one list, one statement.
 use Prim.Native.String.{String}
 use mathlib.Core.Path.{_≡_}
 use mathlib.Core.List.{List, [], _∷_, _++_, map}

@@ -1,4 +1,4 @@
--- What is printed of a file, as the code finds it. Assumes nothing.
+-- What is printed of a file, as the code finds it.
 use Prim.Native.Nat.{ℕ, _+_, _-_, _*_, _≤_, _<_}
 use native.Mathlib.Omega.{arith}
 use mathlib.Core.Path.{_≡_, refl, sym, ap, ap₂, _∙_, subst}
@@ -6,7 +6,7 @@ use lib.ListN.{length, take, drop, length-take}
 use borrow.Author.Tests.{lt-ltb, le-ltb, le-leb}
 use Rattle.actions.specs.Sets.{ActionSet}
 use Rattle.spec_policy.specs.Bytes.{Bytes, Small}
-use Rattle.spec_policy.specs.Records.{nodeCount, stepCount, nodePlace, rowPlace, nodeBytes, stepBytes}
+use Rattle.spec_policy.specs.Records.{nodeCount, stepCount, nodePlace, stepPlace, nodeBytes, stepBytes}
 use Rattle.spec_check.specs.Check.{Answer, passes, check}
 use Rattle.spec_check.specs.Passed.{Passed}
 use Rattle.spec_check.proofs.Passed.{passed}
@@ -35,7 +35,7 @@ module _ (file : Bytes) (ok : Passed file) where
   counts = counts-fit file (ok .kept3)
 
   pub has-front : 6 ≤ length file
-  unfolding rowPlace nodePlace
+  unfolding stepPlace nodePlace
   has-front = omega (arith, counts .long)
 
   pub few-nodes : (n : ℕ) → n ≡ nodeCount file → n ≤ 255
@@ -47,11 +47,11 @@ module _ (file : Bytes) (ok : Passed file) where
     after-front = omega (arith, e)
 
     pub in-file : at ≤ length file
-    unfolding rowPlace nodePlace
+    unfolding stepPlace nodePlace
     in-file = omega (arith, e, counts .long)
 
     pub records-are : printed (take (at - 6) (drop 6 file)) (take (length file - at) (drop at file)) ≡ printed (nodeBytes file) (stepBytes file)
-    unfolding nodeBytes stepBytes rowPlace nodePlace
+    unfolding nodeBytes stepBytes stepPlace nodePlace
     records-are =
         let n : at - 6 ≡ 16 * nodeCount file = omega (arith, e) in
         let m : length file - at ≡ 12 * stepCount file = omega (arith, e, counts .long) in
@@ -89,7 +89,7 @@ records-less file ok t e =
 -- ---- Every file that passes is shown as a text.
 
 pub every-file-shown : (file : Bytes) (r e : ActionSet) → Small file → check file ≡ passes r e → Shows file
-unfolding answered rowPlace nodePlace
+unfolding answered stepPlace nodePlace
 every-file-shown file r e small h =
     let c : CountsFit file = counts-fit file (passed file r e h .kept3) in
     let back = read-printed file r e small h in

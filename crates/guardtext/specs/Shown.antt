@@ -1,4 +1,4 @@
--- What guardtext prints of a file. Assumes nothing.
+-- What guardtext prints of a file.
 use Prim.Native.Nat.{ℕ}
 use mathlib.Core.Path.{_≡_}
 use mathlib.Core.Bool.{true, false}

@@ -1,4 +1,4 @@
--- What reading a text and writing its file gave, and what is printed of it. Assumes nothing.
+-- What reading a text and writing its file gave, and what is printed of it.
 use Prim.Native.Nat.{ℕ, _*_, _/_, _≤_, _<_}
 use native.Mathlib.Nat.{le-of-eq}
 use native.Mathlib.Omega.{arith}

@@ -1,4 +1,4 @@
--- The definitions print what is told of every run, by computation. Assumes nothing.
+-- The definitions print what is told of every run, by computation.
 use mathlib.Core.Path.{refl}
 use Rattle.actions.specs.Opened.{opened as sets}
 use Rattle.spec_policy.specs.Opened.{opened as files}

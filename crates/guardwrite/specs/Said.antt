@@ -1,4 +1,4 @@
--- What guardwrite prints of a text. Assumes nothing.
+-- What guardwrite prints of a text.
 use Prim.Native.Nat.{ℕ}
 use mathlib.Core.Bool.{true, false}
 use lib.Dec.{ltb}

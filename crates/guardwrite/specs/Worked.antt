@@ -1,4 +1,4 @@
--- Runs of guardwrite, one for each of its sentences: one list, one statement. Assumes nothing.
+-- Runs of guardwrite, one for each of its sentences: one list, one statement.
 use Prim.Native.String.{String}
 use mathlib.Core.Path.{_≡_}
 use mathlib.Core.List.{List, [], _∷_, _++_, map}

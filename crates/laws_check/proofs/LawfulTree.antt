@@ -1,4 +1,4 @@
--- A file that breaks no rule holds a lawful tree, whose spread is at most 255 and whose leaves have 1 to 64 steps. Assumes nothing.
+-- A file that breaks no rule holds a lawful tree, whose spread is at most 255 and whose leaves have 1 to 64 steps.
 use Prim.Native.Nat.{ℕ, _≤_, _<_}
 use mathlib.Core.Bool.{Bool, true, false, _&&_, _||_, not}
 use mathlib.Core.List.{map}
@@ -9,15 +9,15 @@ use Rattle.actions.proofs.Tests.{and-left, and-right, not-not, or-false-right}
 use Rattle.spec_policy.specs.Bytes.{Bytes}
 use Rattle.spec_policy.specs.Lists.{summed, every}
 use Rattle.spec_policy.specs.Records.{nodeCount, stepCount, nodes}
-use Rattle.spec_policy.specs.Tree.{Way, parallel, sequential, Join, owned, places, Tree, leaf, trivial, unsatisfiable, node, regulated, grown, tree}
+use Rattle.spec_policy.specs.Tree.{Way, parallel, sequential, Join, stepsOwned, nodesWithSteps, Tree, leaf, trivial, unsatisfiable, node, regulated, treeUnder, tree}
 use Rattle.spec_check.specs.Leaves.{everyLeaf}
 use Rattle.spec_check.specs.Targets.{targetsFit, broken6}
 use Rattle.spec_check.specs.Modes.{modesFit, broken7}
 use Rattle.spec_check.specs.Interference.{effects, interfere, apart, broken9}
 use Rattle.spec_check.specs.Spread.{spread, narrow, broken10}
 use Rattle.spec_check.specs.Lawful.{LawfulLeaf, holds, Spared, Lawful}
-use Rattle.spec_check.proofs.Grown.{EachLeaf, grown-leaves}
-use Rattle.spec_check.specs.Numbers.{nodeIn, placeIn, Distinct}
+use Rattle.spec_check.proofs.Under.{EachLeaf, under-leaves}
+use Rattle.spec_check.specs.Numbers.{nodeIn, nodeStepsIn, Distinct}
 use Rattle.spec_check.proofs.Numbers.{distinct, numbers-below}
 use Rattle.spec_check.specs.Passed.{Passed}
 use Rattle.spec_check.proofs.InsFits.{insFits}
@@ -66,15 +66,15 @@ narrow-spread (node w j i l r) h = leb→le (spread (node w j i l r)) 255 (and-r
 -- ---- of a file that breaks no rule
 
 module _ (file : Bytes) (passed : Passed file) where
-  targets-fit : T (everyLeaf targetsFit (places file))
+  targets-fit : T (everyLeaf targetsFit (nodesWithSteps file))
   unfolding broken6
   targets-fit =
-      not-not (everyLeaf targetsFit (places file))
-      (or-false-right (not (eqb (summed (map owned (nodes file))) (stepCount file))) (not (everyLeaf targetsFit (places file))) (passed .kept6))
+      not-not (everyLeaf targetsFit (nodesWithSteps file))
+      (or-false-right (not (eqb (summed (map stepsOwned (nodes file))) (stepCount file))) (not (everyLeaf targetsFit (nodesWithSteps file))) (passed .kept6))
 
-  modes-fit : T (everyLeaf (λ r code. modesFit code) (places file))
+  modes-fit : T (everyLeaf (λ r code. modesFit code) (nodesWithSteps file))
   unfolding broken7
-  modes-fit = not-not (everyLeaf (λ r code. modesFit code) (places file)) (passed .kept7)
+  modes-fit = not-not (everyLeaf (λ r code. modesFit code) (nodesWithSteps file)) (passed .kept7)
 
   sides-apart : T (apart (tree file))
   unfolding broken9
@@ -91,15 +91,15 @@ module _ (file : Bytes) (passed : Passed file) where
   pub leaf-length : EachLeaf (λ i s c code. (1 ≤ length code) × (length code ≤ 64)) (tree file)
   unfolding tree
   leaf-length =
-      grown-leaves (places file) (λ i s c code. (1 ≤ length code) × (length code ≤ 64))
+      under-leaves (nodesWithSteps file) (λ i s c code. (1 ≤ length code) × (length code ≤ 64))
       (λ i e. (leaf-steps file (passed .kept4) (passed .kept6) i e .some, leaf-steps file (passed .kept4) (passed .kept6) i e .few)) (nodeCount file) 0
 
-  pub lawful-leaves : (fuel i : ℕ) → EachLeaf (λ i s c code. LawfulLeaf s code) (grown fuel (places file) i)
+  pub lawful-leaves : (fuel i : ℕ) → EachLeaf (λ i s c code. LawfulLeaf s code) (treeUnder fuel (nodesWithSteps file) i)
   lawful-leaves =
-      grown-leaves (places file) (λ i s c code. LawfulLeaf s code) (λ i e.
-      lawful-leaf (nodeIn (places file) i .set) (placeIn (places file) i .steps) (leaf-at targetsFit (places file) i targets-fit e)
-      (leaf-at (λ r code. modesFit code) (places file) i modes-fit e)
-      (leaf-at (λ r code. every insFits code) (places file) i (ins-fit file (passed .kept4)) e))
+      under-leaves (nodesWithSteps file) (λ i s c code. LawfulLeaf s code) (λ i e.
+      lawful-leaf (nodeIn (nodesWithSteps file) i .set) (nodeStepsIn (nodesWithSteps file) i .steps) (leaf-at targetsFit (nodesWithSteps file) i targets-fit e)
+      (leaf-at (λ r code. modesFit code) (nodesWithSteps file) i modes-fit e)
+      (leaf-at (λ r code. every insFits code) (nodesWithSteps file) i (ins-fit file (passed .kept4)) e))
 
   pub lawful : Lawful (tree file)
   unfolding tree

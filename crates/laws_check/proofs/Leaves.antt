@@ -1,5 +1,5 @@
 -- A leaf that keeps rules 6 and 7 is lawful: where a step is reached, what it leads to is reached, and what it hands on is possible
--- there. Assumes nothing.
+-- there.
 use Prim.Native.Nat.{ℕ, zero, suc, _+_, _<_}
 use native.Mathlib.Nat.{le-of-suc-le-suc, not-suc-le-zero}
 use native.Mathlib.Omega.{arith}

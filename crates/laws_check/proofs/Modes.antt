@@ -1,4 +1,4 @@
--- The mode pass finds just what the paper says: an offset is marked in a mode where a chain of steps reaches it. Assumes nothing.
+-- The mode pass finds just what the paper says: an offset is marked in a mode where a chain of steps reaches it.
 use Prim.Native.Nat.{ℕ, zero, suc, _+_, _≤_, _<_}
 use native.Mathlib.Nat.{le-refl, le-of-suc-le-suc, not-suc-le-zero}
 use native.Mathlib.Omega.{arith}

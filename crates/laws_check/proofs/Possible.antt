@@ -1,5 +1,5 @@
 -- The pass of possible actions finds just what the paper says: an action is in an offset's set where a chain of steps from a take
--- target brings it there. Assumes nothing.
+-- target brings it there.
 use Prim.Native.Nat.{ℕ, zero, suc, _+_, _≤_, _<_}
 use native.Mathlib.Nat.{le-refl, le-of-suc-le-suc, not-suc-le-zero}
 use native.Mathlib.Decide.{ℕ-discrete}

@@ -1,4 +1,4 @@
--- Rule 7 as the paper says it: each step of the leaf is reached in just one mode, and may stand in it. Assumes nothing.
+-- Rule 7 as the paper says it: each step of the leaf is reached in just one mode, and may stand in it.
 use Prim.Native.Nat.{ℕ, zero, suc, _+_, _<_, zero-le, suc-le-suc}
 use native.Mathlib.Omega.{arith}
 use mathlib.Core.Path.{_≡_, refl, sym, subst}

@@ -1,4 +1,4 @@
--- Rule 7 of one step, in the words of "Mode rule" and with no pass that computes it. Assumes nothing.
+-- Rule 7 of one step, in the words of "Mode rule" and with no pass that computes it.
 use Prim.Native.Nat.{ℕ}
 use mathlib.Core.Path.{_≡_}
 use mathlib.Core.List.{List}

@@ -1,4 +1,4 @@
--- The entry points' definition taken apart: an answered call was refused by nothing, and a refused one keeps every byte. Assumes nothing.
+-- The entry points' definition taken apart: an answered call was refused by nothing, and a refused one keeps every byte.
 use Prim.Native.Nat.{ℕ, _≤_}
 use native.Mathlib.Omega.{arith}
 use mathlib.Core.Path.{_≡_, refl, sym, ap, _∙_, subst}

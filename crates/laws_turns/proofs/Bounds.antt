@@ -1,4 +1,4 @@
--- An answered call's events: at most spread + 1, so that they fit the least room, and nothing after them is touched. Assumes nothing.
+-- An answered call's events: at most spread + 1, so that they fit the least room, and nothing after them is touched.
 use Prim.Native.Nat.{ℕ, _+_, _*_, _≤_}
 use native.Mathlib.Omega.{arith}
 use mathlib.Core.Path.{_≡_, refl, sym, _∙_, ap}

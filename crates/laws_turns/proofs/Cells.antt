@@ -1,5 +1,5 @@
 -- Storing and loading: the cells of a tree hold the state that was stored, no other cell changes, and a cell is told by what is read of it.
--- Assumes nothing.
+--
 use Prim.Native.Nat.{ℕ, zero, suc, _+_, _^_, _≤_, _<_}
 use native.Mathlib.Omega.{arith}
 use mathlib.Core.Path.{_≡_, refl, sym, ap, ap₂, _∙_, subst}
@@ -17,9 +17,9 @@ use Rattle.spec_policy.proofs.ByteLaws.{small-take, small-drop, put-length, par
 use Rattle.spec_policy.proofs.NumberLaws.{byte-first, number-first, number-last}
 use Rattle.spec_check.specs.Lawful.{holds, Disjoint, Numbered, Lawful}
 use Rattle.spec_turns.specs.Status.{Status, running, ended, endedLeft, endedRight, halted, dropped, statusNumber, statusOf}
-use Rattle.spec_turns.specs.State.{State, at, over, status, offset, counter, leftOf, rightOf}
+use Rattle.spec_turns.specs.State.{State, leafState, pairState, status, offset, counter, leftOf, rightOf}
 use Rattle.spec_turns.specs.Saved.{cellSize, stateSize, cellPlace, statusAt, offsetAt, zerosAt, counterAt, cell, load, store, saved}
-use Rattle.spec_turns.specs.Rest.{gone, Rest, leaf-waits, leaf-ended, leaf-halted, trivial-ended, unsatisfiable-halted, pair-runs, pair-decided}
+use Rattle.spec_turns.specs.Rest.{gone, AtRest, leaf-waits, leaf-ended, leaf-halted, trivial-ended, unsatisfiable-halted, pair-runs, pair-decided}
 use Rattle.laws_turns.specs.Cells.{Below, Sized, cellAt, Stored, leaf-held, trivial-held, unsatisfiable-held, pair-held}
 use Rattle.spec_check.specs.Numbers.{Distinct}
 
@@ -252,7 +252,7 @@ pub zero-word : 0 < 256 ^ 4
 zero-word = omega arith
 
 read-same : (bs cs : Bytes) (i : ℕ) → length bs ≡ stateSize → length cs ≡ stateSize → i < mostNodes → cellAt bs i ≡ cellAt cs i
-    → at (statusOf (statusAt bs i)) false (offsetAt bs i) (counterAt bs i) ≡ at (statusOf (statusAt cs i)) false (offsetAt cs i) (counterAt cs i)
+    → leafState (statusOf (statusAt bs i)) false (offsetAt bs i) (counterAt bs i) ≡ leafState (statusOf (statusAt cs i)) false (offsetAt cs i) (counterAt cs i)
 read-same bs cs i z y below e = let q = cell-same bs cs i z y below e in rw (q .0, q .1, q .3)
 
 -- what is loaded of a tree goes by its cells alone
@@ -287,10 +287,10 @@ status-back dropped = refl
 status-read : (bs : Bytes) (i : ℕ) → length bs ≡ stateSize → i < mostNodes → (s : State) → cellAt bs i ≡ cell s → statusOf (statusAt bs i) ≡ status s
 status-read bs i size below s is = ap statusOf (status-is bs i size below s is) ∙ status-back (status s)
 
-cell-read : (bs : Bytes) (i : ℕ) → length bs ≡ stateSize → i < mostNodes → (s : Status) (o c : ℕ) → c < 256 ^ 4 → cellAt bs i ≡ cell (at s false o c)
-    → at (statusOf (statusAt bs i)) false (offsetAt bs i) (counterAt bs i) ≡ at s false o c
+cell-read : (bs : Bytes) (i : ℕ) → length bs ≡ stateSize → i < mostNodes → (s : Status) (o c : ℕ) → c < 256 ^ 4 → cellAt bs i ≡ cell (leafState s false o c)
+    → leafState (statusOf (statusAt bs i)) false (offsetAt bs i) (counterAt bs i) ≡ leafState s false o c
 cell-read bs i size below s o c h is =
-    let x : State = at s false o c in
+    let x : State = leafState s false o c in
     let e : statusOf (statusAt bs i) ≡ s = unfold status in status-read bs i size below x is in
     let f : offsetAt bs i ≡ o = unfold offset in offset-is bs i size below x is in
     let g : counterAt bs i ≡ c = unfold counter in counter-is bs i size below x is h in
@@ -298,11 +298,11 @@ cell-read bs i size below s o c h is =
 
 pub kept-load : (t : Tree) (s : State) (bs : Bytes) → Below mostNodes t → length bs ≡ stateSize → Stored t s → Kept t s bs → load t bs ≡ s
 unfolding Kept holds load leftOf rightOf status
-kept-load (leaf i r c₀ code) (at s false o c) bs below size (leaf-held g h) k = cell-read bs i size (below i (eqb-refl i)) s o c h k
-kept-load (trivial i) (at s false o c) bs below size (trivial-held g h) k = cell-read bs i size (below i (eqb-refl i)) s o c h k
-kept-load (unsatisfiable i) (at s false o c) bs below size (unsatisfiable-held g h) k = cell-read bs i size (below i (eqb-refl i)) s o c h k
-kept-load (node w j i l r) (over s false a b) bs below size (pair-held h g) k =
-    let e : statusOf (statusAt bs i) ≡ s = status-read bs i size (below-here mostNodes w j i l r below) (over s false a b) (k .0) in
+kept-load (leaf i r c₀ code) (leafState s false o c) bs below size (leaf-held g h) k = cell-read bs i size (below i (eqb-refl i)) s o c h k
+kept-load (trivial i) (leafState s false o c) bs below size (trivial-held g h) k = cell-read bs i size (below i (eqb-refl i)) s o c h k
+kept-load (unsatisfiable i) (leafState s false o c) bs below size (unsatisfiable-held g h) k = cell-read bs i size (below i (eqb-refl i)) s o c h k
+kept-load (node w j i l r) (pairState s false a b) bs below size (pair-held h g) k =
+    let e : statusOf (statusAt bs i) ≡ s = status-read bs i size (below-here mostNodes w j i l r below) (pairState s false a b) (k .0) in
     let f : load l bs ≡ a = kept-load l a bs (below-left mostNodes w j i l r below) size h (k .1) in
     let g : load r bs ≡ b = kept-load r b bs (below-right mostNodes w j i l r below) size g (k .2) in
     cc
@@ -319,7 +319,7 @@ gone-stored (trivial i) = trivial-held zero-byte zero-word
 gone-stored (unsatisfiable i) = unsatisfiable-held zero-byte zero-word
 gone-stored (node w j i l r) = pair-held (gone-stored l) (gone-stored r)
 
-pub rest-stored : {t : Tree} {s : State} → Sized t → Rest t s → Stored t s
+pub rest-stored : {t : Tree} {s : State} → Sized t → AtRest t s → Stored t s
 unfolding Sized
 rest-stored {t = leaf i r c₀ code} z (leaf-waits {o = o} {c = c} n h) = let f : c < 256 ^ 4 = omega arith in leaf-held (z .0 o n) f
 rest-stored z leaf-ended = leaf-held zero-byte zero-word
@@ -341,6 +341,6 @@ unfolding saved
 saved-kept t apart below s = store-kept t apart below s (replicate stateSize 0) blank
 
 -- reading back a saved state gives the state that was saved
-pub load-saved : (t : Tree) → Distinct t → Below mostNodes t → Sized t → (s : State) → Rest t s → load t (saved t s) ≡ s
+pub load-saved : (t : Tree) → Distinct t → Below mostNodes t → Sized t → (s : State) → AtRest t s → load t (saved t s) ≡ s
 unfolding saved
 load-saved t apart below sized s rest = load-store t apart below s (rest-stored sized rest) (replicate stateSize 0) blank

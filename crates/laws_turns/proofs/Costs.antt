@@ -1,4 +1,4 @@
--- What a call may cost, whatever is counted: single steps, inserts or verdicts. Assumes nothing.
+-- What a call may cost, whatever is counted: single steps, inserts or verdicts.
 use Prim.Native.Nat.{ℕ, zero, suc, _+_, _*_, _≤_, zero-le}
 use native.Mathlib.Nat.{le-refl, le-trans, add-le-add, add-mul, mul-suc, mul-le-mul-right}
 use native.Mathlib.Omega.{arith}
@@ -13,7 +13,7 @@ use Rattle.spec_policy.specs.Tree.{parallel, sequential, Join, Tree, leaf, triv
 use Rattle.spec_check.specs.Spread.{insCount, spreadOf, spread}
 use Rattle.spec_check.specs.Lawful.{LawfulLeaf, Lawful}
 use Rattle.spec_turns.specs.Status.{isRunning, isHalted, joined}
-use Rattle.spec_turns.specs.State.{State, over, status, asked, offset, counter, leftOf, rightOf, drop, noded, settled}
+use Rattle.spec_turns.specs.State.{State, pairState, status, asked, offset, counter, leftOf, rightOf, drop, pairWith, settled}
 use Rattle.spec_turns.specs.Process.{Item, ran, lets, sups, accepts, suppresses, Out, Process, stop, does, both, outcome}
 use Rattle.spec_turns.specs.Turn.{Phase, before, after, closing, Behaviour, quiet, takeOf, doneOf, leafWork, parallelWork, judged, emitted, given}
 use Rattle.spec_turns.specs.Turn.{feed, sequentialWork, isAsked, ifAsked, phase, fresh, Request, opening, offer, close, verdict, call}
@@ -81,13 +81,13 @@ module _ (u v z : ℕ) where
   -- ---- a node: what it owes goes by its two sides
 
   settled-owes : (D : State → State → ℕ) (j : Join) (m : Bool) (a b : State) → owing (λ s. D (leftOf s) (rightOf s)) (settled j m a b) ≤ noneIf (not m) (D a b)
-  unfolding settled noded owing asked leftOf rightOf noneIf
+  unfolding settled pairWith owing asked leftOf rightOf noneIf
   settled-owes D j m a b = go (isRunning (joined j (status a) (status b)))
     where
       go : (t : Bool)
           → owing (λ s. D (leftOf s) (rightOf s)) (elim t [
-            | true ↦ over (joined j (status a) (status b)) m a b
-            | false ↦ over (joined j (status a) (status b)) false (drop a) (drop b)
+            | true ↦ pairState (joined j (status a) (status b)) m a b
+            | false ↦ pairState (joined j (status a) (status b)) false (drop a) (drop b)
           ]) ≤ noneIf (not m) (D a b)
       go true = le-refl (noneIf (not m) (D a b))
       go false = zero-le

@@ -1,5 +1,5 @@
 -- What is counted along a process, left side first: inserts, events or single steps. A leaf's count is bounded by its steps ahead.
--- Assumes nothing.
+--
 use Prim.Native.Nat.{ℕ, zero, suc, _+_, _*_, _-_, _≤_, _<_, zero-le}
 use native.Mathlib.Nat.{le-refl, le-of-suc-le-suc, not-suc-le-zero}
 use native.Mathlib.Omega.{arith}

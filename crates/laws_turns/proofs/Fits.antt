@@ -1,4 +1,4 @@
--- Rule 12 and states at rest: what fits is at rest and holds nothing but the state that it is read as; what was saved at rest fits. Assumes nothing.
+-- Rule 12 and states at rest: what fits is at rest and holds nothing but the state that it is read as; what was saved at rest fits.
 use Prim.Native.Nat.{ℕ, zero, suc, _+_, _^_, _≤_, _<_}
 use native.Mathlib.Nat.{eq-or-lt-of-le}
 use native.Mathlib.Omega.{arith}
@@ -19,10 +19,10 @@ use Rattle.spec_policy.proofs.ListLaws.{every-drop}
 use Rattle.spec_policy.proofs.ByteLaws.{drop-after, zeros-every, number-zeros}
 use Rattle.spec_check.specs.Lawful.{holds}
 use Rattle.spec_turns.specs.Status.{Status, running, ended, endedLeft, endedRight, halted, dropped, statusNumber, statusOf, isRunning, hasEnded, isHalted, joined}
-use Rattle.spec_turns.specs.State.{State, at, over, status, offset, counter, leftOf, rightOf}
+use Rattle.spec_turns.specs.State.{State, leafState, pairState, status, offset, counter, leftOf, rightOf}
 use Rattle.spec_turns.specs.Saved.{stateSize, cellPlace, statusAt, offsetAt, zerosAt, counterAt, cell, load, store, saved, droppedWith, isRunningAt, statuses, undecided, bare}
 use Rattle.spec_turns.specs.Saved.{waitsAt, fitsUnder, zerosUpTo, fits}
-use Rattle.spec_turns.specs.Rest.{gone, decidedBy, Rest, leaf-waits, leaf-ended, leaf-halted, trivial-ended, unsatisfiable-halted, pair-runs, pair-decided}
+use Rattle.spec_turns.specs.Rest.{gone, decidedBy, AtRest, leaf-waits, leaf-ended, leaf-halted, trivial-ended, unsatisfiable-halted, pair-runs, pair-decided}
 use Rattle.laws_turns.proofs.Cells.{holds-here, holds-left, holds-right, below-more, below-here, below-left, below-right, cell-length, cell-of, cell-same, put-size, put-cell, put-elsewhere}
 use Rattle.laws_turns.specs.Cells.{Below, Sized, cellAt}
 use Rattle.spec_check.specs.Numbers.{Distinct}
@@ -69,7 +69,7 @@ named n (k ∷ ns) e h =
     (λ u. named n ns (and-right (eqb k (statusNumber (statusOf k))) (every (λ m. eqb m (statusNumber (statusOf m))) ns) e) u) (or-cases (eqb n k) (among n ns) h)
 
 -- a leaf's offset and counter that are zero
-zeroed : (x : Status) (o c : ℕ) → T (eqb o 0 && eqb c 0) → at x false o c ≡ at x false 0 0
+zeroed : (x : Status) (o c : ℕ) → T (eqb o 0 && eqb c 0) → leafState x false o c ≡ leafState x false 0 0
 zeroed x o c h =
     let p : o ≡ 0 = eqb→eq o 0 (and-left (eqb o 0) (eqb c 0) h) in
     let q : c ≡ 0 = eqb→eq c 0 (and-right (eqb o 0) (eqb c 0) h) in
@@ -88,34 +88,34 @@ Standing n = T (Bool·beq (eqb n 6) false)
 
 leaf-rests : (i c₀ : ℕ) (r : ActionSet) (code : List Step) (x : Status) (o c : ℕ) → Standing (statusNumber x)
     → T (among (statusNumber x) (1 ∷ 2 ∷ 5 ∷ 6 ∷ [])) → T (elim (isRunning x) [ true ↦ isNext (getD code o halt) && leb c c₀ | false ↦ eqb o 0 && eqb c 0 ])
-    → Rest (leaf i r c₀ code) (at x false o c)
+    → AtRest (leaf i r c₀ code) (leafState x false o c)
 unfolding statusNumber among isRunning
 leaf-rests i c₀ r code running o c d m h =
     leaf-waits (and-left (isNext (getD code o halt)) (leb c c₀) h) (leb→le c c₀ (and-right (isNext (getD code o halt)) (leb c c₀) h))
-leaf-rests i c₀ r code ended o c d m h = subst (λ (s : State). Rest (leaf i r c₀ code) s) (sym (zeroed ended o c h)) leaf-ended
+leaf-rests i c₀ r code ended o c d m h = subst (λ (s : State). AtRest (leaf i r c₀ code) s) (sym (zeroed ended o c h)) leaf-ended
 leaf-rests i c₀ r code endedLeft o c d m h = absurd m
 leaf-rests i c₀ r code endedRight o c d m h = absurd m
-leaf-rests i c₀ r code halted o c d m h = subst (λ (s : State). Rest (leaf i r c₀ code) s) (sym (zeroed halted o c h)) leaf-halted
+leaf-rests i c₀ r code halted o c d m h = subst (λ (s : State). AtRest (leaf i r c₀ code) s) (sym (zeroed halted o c h)) leaf-halted
 leaf-rests i c₀ r code dropped o c d m h = absurd d
 
 trivial-rests : (i : ℕ) (x : Status) (o c : ℕ) → Standing (statusNumber x) → T (among (statusNumber x) (2 ∷ 6 ∷ [])) → T (eqb o 0 && eqb c 0)
-    → Rest (trivial i) (at x false o c)
+    → AtRest (trivial i) (leafState x false o c)
 unfolding statusNumber among
 trivial-rests i running o c d m h = absurd m
-trivial-rests i ended o c d m h = subst (λ (s : State). Rest (trivial i) s) (sym (zeroed ended o c h)) trivial-ended
+trivial-rests i ended o c d m h = subst (λ (s : State). AtRest (trivial i) s) (sym (zeroed ended o c h)) trivial-ended
 trivial-rests i endedLeft o c d m h = absurd m
 trivial-rests i endedRight o c d m h = absurd m
 trivial-rests i halted o c d m h = absurd m
 trivial-rests i dropped o c d m h = absurd d
 
 unsatisfiable-rests : (i : ℕ) (x : Status) (o c : ℕ) → Standing (statusNumber x) → T (among (statusNumber x) (5 ∷ 6 ∷ [])) → T (eqb o 0 && eqb c 0)
-    → Rest (unsatisfiable i) (at x false o c)
+    → AtRest (unsatisfiable i) (leafState x false o c)
 unfolding statusNumber among
 unsatisfiable-rests i running o c d m h = absurd m
 unsatisfiable-rests i ended o c d m h = absurd m
 unsatisfiable-rests i endedLeft o c d m h = absurd m
 unsatisfiable-rests i endedRight o c d m h = absurd m
-unsatisfiable-rests i halted o c d m h = subst (λ (s : State). Rest (unsatisfiable i) s) (sym (zeroed halted o c h)) unsatisfiable-halted
+unsatisfiable-rests i halted o c d m h = subst (λ (s : State). AtRest (unsatisfiable i) s) (sym (zeroed halted o c h)) unsatisfiable-halted
 unsatisfiable-rests i dropped o c d m h = absurd d
 
 pair-decides : (j : Join) (x : Status) → Standing (statusNumber x) → T (among (statusNumber x) (statuses j)) → isRunning x ≡ false → T (decidedBy j x)
@@ -146,9 +146,9 @@ is-dropped n h = go (eqb n 6) refl h
     go true e h = unfold statusOf in ap statusOf (eqb→eq n 6 (of-yes (eqb n 6) e))
     go false e h = absurd h
 
-gone-cell : (bs : Bytes) (i : ℕ) → T (droppedWith true bs i) → T (bare bs i) → at (statusOf (statusAt bs i)) false (offsetAt bs i) (counterAt bs i) ≡ at dropped false 0 0
+gone-cell : (bs : Bytes) (i : ℕ) → T (droppedWith true bs i) → T (bare bs i) → leafState (statusOf (statusAt bs i)) false (offsetAt bs i) (counterAt bs i) ≡ leafState dropped false 0 0
 unfolding droppedWith bare
-gone-cell bs i d h = ap (λ (x : Status). at x false (offsetAt bs i) (counterAt bs i)) (is-dropped (statusAt bs i) d) ∙ zeroed dropped (offsetAt bs i) (counterAt bs i) h
+gone-cell bs i d h = ap (λ (x : Status). leafState x false (offsetAt bs i) (counterAt bs i)) (is-dropped (statusAt bs i) d) ∙ zeroed dropped (offsetAt bs i) (counterAt bs i) h
 
 not-running : (bs : Bytes) (i : ℕ) → T (droppedWith true bs i) → isRunningAt bs i ≡ false
 unfolding isRunningAt isRunning droppedWith
@@ -231,7 +231,7 @@ unfolding every statuses statusNumber statusOf
 statuses-named and = tt
 statuses-named or = tt
 
-pub fits-rest : (t : Tree) (bs : Bytes) → T (fitsUnder false t bs) → Rest t (load t bs)
+pub fits-rest : (t : Tree) (bs : Bytes) → T (fitsUnder false t bs) → AtRest t (load t bs)
 unfolding load fitsUnder isRunningAt waitsAt bare every statusNumber statusOf
 fits-rest (leaf i r c code) bs h =
     let p = three (droppedWith false bs i) (among (statusAt bs i) (1 ∷ 2 ∷ 5 ∷ 6 ∷ [])) (elim (isRunningAt bs i) [ true ↦ waitsAt code c bs i | false ↦ bare bs i ]) h in
@@ -247,8 +247,8 @@ fits-rest (unsatisfiable i) bs h =
     unsatisfiable-rests i (statusOf (statusAt bs i)) (offsetAt bs i) (counterAt bs i) (q .0) (q .1) (p .2)
 fits-rest (node w j i l r) bs h = go (isRunningAt bs i) refl (pair-parts false w j i l r bs h) (fits-rest l bs) (fits-rest r bs)
   where
-    go : (b : Bool) → isRunningAt bs i ≡ b → PairFits false b w j i l r bs → (T (fitsUnder false l bs) → Rest l (load l bs)) → (T (fitsUnder false r bs) → Rest r (load r bs))
-        → Rest (node w j i l r) (over (statusOf (statusAt bs i)) false (load l bs) (load r bs))
+    go : (b : Bool) → isRunningAt bs i ≡ b → PairFits false b w j i l r bs → (T (fitsUnder false l bs) → AtRest l (load l bs)) → (T (fitsUnder false r bs) → AtRest r (load r bs))
+        → AtRest (node w j i l r) (pairState (statusOf (statusAt bs i)) false (load l bs) (load r bs))
     go true e p a b =
         let q : statusOf (statusAt bs i) ≡ running = unfold isRunningAt in is-running (statusOf (statusAt bs i)) e in
         let u : joined j (status (load l bs)) (status (load r bs)) ≡ running =
@@ -264,17 +264,17 @@ fits-rest (node w j i l r) bs h = go (isRunningAt bs i) refl (pair-parts false w
 module _ (bs : Bytes) (size : length bs ≡ stateSize) (small : Small bs) where
   -- a node that has no sides: its cell is read whole
   leaf-cell : (i : ℕ) (ns : List ℕ) → T (every (λ k. eqb k (statusNumber (statusOf k))) ns) → (i < mostNodes) × (zerosAt bs i ≡ 0) → T (among (statusAt bs i) ns)
-      → cellAt bs i ≡ cell (at (statusOf (statusAt bs i)) false (offsetAt bs i) (counterAt bs i))
+      → cellAt bs i ≡ cell (leafState (statusOf (statusAt bs i)) false (offsetAt bs i) (counterAt bs i))
   unfolding status offset counter
   leaf-cell i ns e z m =
-      cell-of bs i size (z .0) small (at (statusOf (statusAt bs i)) false (offsetAt bs i) (counterAt bs i)) (named (statusAt bs i) ns e m) refl (z .1) refl
+      cell-of bs i size (z .0) small (leafState (statusOf (statusAt bs i)) false (offsetAt bs i) (counterAt bs i)) (named (statusAt bs i) ns e m) refl (z .1) refl
 
   -- a pair: its offset and counter are not read, and are zero
   pair-cell : (i : ℕ) (j : Join) (a b : State) → (i < mostNodes) × (zerosAt bs i ≡ 0) → T (among (statusAt bs i) (statuses j)) → T (bare bs i)
-      → cellAt bs i ≡ cell (over (statusOf (statusAt bs i)) false a b)
+      → cellAt bs i ≡ cell (pairState (statusOf (statusAt bs i)) false a b)
   unfolding status offset counter bare
   pair-cell i j a b z m h =
-      cell-of bs i size (z .0) small (over (statusOf (statusAt bs i)) false a b) (named (statusAt bs i) (statuses j) (statuses-named j) m)
+      cell-of bs i size (z .0) small (pairState (statusOf (statusAt bs i)) false a b) (named (statusAt bs i) (statuses j) (statuses-named j) m)
       (eqb→eq (offsetAt bs i) 0 (and-left (eqb (offsetAt bs i) 0) (eqb (counterAt bs i) 0) h)) (z .1)
       (eqb→eq (counterAt bs i) 0 (and-right (eqb (offsetAt bs i) 0) (eqb (counterAt bs i) 0) h))
 
@@ -324,20 +324,20 @@ decided-parts or dropped d = absurd d
 
 module _ (bs : Bytes) (size : length bs ≡ stateSize) where
   -- the readings of a cell that is a state's
-  reads-at : (i : ℕ) → i < mostNodes → (x : Status) (o c : ℕ) → c < 256 ^ 4 → cellAt bs i ≡ cell (at x false o c)
+  reads-at : (i : ℕ) → i < mostNodes → (x : Status) (o c : ℕ) → c < 256 ^ 4 → cellAt bs i ≡ cell (leafState x false o c)
       → (statusAt bs i ≡ statusNumber x) × (offsetAt bs i ≡ o) × (counterAt bs i ≡ c)
   unfolding status offset counter
   reads-at i below x o c h is =
-      (status-is bs i size below (at x false o c) is, offset-is bs i size below (at x false o c) is, counter-is bs i size below (at x false o c) is h)
+      (status-is bs i size below (leafState x false o c) is, offset-is bs i size below (leafState x false o c) is, counter-is bs i size below (leafState x false o c) is h)
 
-  reads-over : (i : ℕ) → i < mostNodes → (x : Status) (a b : State) → cellAt bs i ≡ cell (over x false a b)
+  reads-over : (i : ℕ) → i < mostNodes → (x : Status) (a b : State) → cellAt bs i ≡ cell (pairState x false a b)
       → (statusAt bs i ≡ statusNumber x) × (offsetAt bs i ≡ 0) × (counterAt bs i ≡ 0)
   unfolding status offset counter
   reads-over i below x a b is =
-      (status-is bs i size below (over x false a b) is, offset-is bs i size below (over x false a b) is, counter-is bs i size below (over x false a b) is zero-word)
+      (status-is bs i size below (pairState x false a b) is, offset-is bs i size below (pairState x false a b) is, counter-is bs i size below (pairState x false a b) is zero-word)
 
   -- the cell of a node that has no sides, and nothing to wait for
-  leaf-fits : (parent : Bool) (i c : ℕ) (r : ActionSet) (code : List Step) (x : Status) → i < mostNodes → cellAt bs i ≡ cell (at x false 0 0)
+  leaf-fits : (parent : Bool) (i c : ℕ) (r : ActionSet) (code : List Step) (x : Status) → i < mostNodes → cellAt bs i ≡ cell (leafState x false 0 0)
       → T (Bool·beq (eqb (statusNumber x) 6) parent && among (statusNumber x) (1 ∷ 2 ∷ 5 ∷ 6 ∷ []) && not (isRunning x)) → T (fitsUnder parent (leaf i r c code) bs)
   unfolding fitsUnder droppedWith isRunningAt bare
   leaf-fits parent i c r code x below is h =
@@ -348,20 +348,20 @@ module _ (bs : Bytes) (size : length bs ≡ stateSize) where
       (and-intro (Bool·beq (eqb (statusNumber x) 6) parent) (among (statusNumber x) (1 ∷ 2 ∷ 5 ∷ 6 ∷ [])) (p .0) (p .1)) tt)
 
   leaf-waits-fits : (i c₀ : ℕ) (r : ActionSet) (code : List Step) (o c : ℕ) → i < mostNodes → c < 256 ^ 4 → T (isNext (getD code o halt)) → c ≤ c₀
-      → cellAt bs i ≡ cell (at running false o c) → T (fitsUnder false (leaf i r c₀ code) bs)
+      → cellAt bs i ≡ cell (leafState running false o c) → T (fitsUnder false (leaf i r c₀ code) bs)
   unfolding fitsUnder droppedWith among isRunningAt isRunning waitsAt statusOf statusNumber
   leaf-waits-fits i c₀ r code o c below small n h is =
       let q = reads-at i below running o c small is in
       rw (q .0, q .1, q .2) (and-intro (isNext (getD code o halt)) (leb c c₀) n (le→leb c c₀ h))
 
-  trivial-fits : (parent : Bool) (i : ℕ) (x : Status) → i < mostNodes → cellAt bs i ≡ cell (at x false 0 0)
+  trivial-fits : (parent : Bool) (i : ℕ) (x : Status) → i < mostNodes → cellAt bs i ≡ cell (leafState x false 0 0)
       → T (Bool·beq (eqb (statusNumber x) 6) parent && among (statusNumber x) (2 ∷ 6 ∷ [])) → T (fitsUnder parent (trivial i) bs)
   unfolding fitsUnder droppedWith bare
   trivial-fits parent i x below is h =
       let q = reads-at i below x 0 0 zero-word is in
       rw (q .0, q .1, q .2) (and-intro (Bool·beq (eqb (statusNumber x) 6) parent && among (statusNumber x) (2 ∷ 6 ∷ [])) true h tt)
 
-  unsatisfiable-fits : (parent : Bool) (i : ℕ) (x : Status) → i < mostNodes → cellAt bs i ≡ cell (at x false 0 0)
+  unsatisfiable-fits : (parent : Bool) (i : ℕ) (x : Status) → i < mostNodes → cellAt bs i ≡ cell (leafState x false 0 0)
       → T (Bool·beq (eqb (statusNumber x) 6) parent && among (statusNumber x) (5 ∷ 6 ∷ [])) → T (fitsUnder parent (unsatisfiable i) bs)
   unfolding fitsUnder droppedWith bare
   unsatisfiable-fits parent i x below is h =
@@ -369,7 +369,7 @@ module _ (bs : Bytes) (size : length bs ≡ stateSize) where
       rw (q .0, q .1, q .2) (and-intro (Bool·beq (eqb (statusNumber x) 6) parent && among (statusNumber x) (5 ∷ 6 ∷ [])) true h tt)
 
   -- a pair whose cell is a state's
-  pair-fits : (parent : Bool) (w : Way) (j : Join) (i : ℕ) (l r : Tree) (x : Status) (a b : State) → i < mostNodes → cellAt bs i ≡ cell (over x false a b)
+  pair-fits : (parent : Bool) (w : Way) (j : Join) (i : ℕ) (l r : Tree) (x : Status) (a b : State) → i < mostNodes → cellAt bs i ≡ cell (pairState x false a b)
       → T (Bool·beq (eqb (statusNumber x) 6) parent) → T (among (statusNumber x) (statuses j))
       → T (not (isRunning x) || undecided j (statusOf (statusAt bs (numberOf l))) (statusOf (statusAt bs (numberOf r))))
       → T (fitsUnder (not (isRunning x)) l bs) → T (fitsUnder (not (isRunning x)) r bs) → T (fitsUnder parent (node w j i l r) bs)
@@ -390,7 +390,7 @@ module _ (bs : Bytes) (size : length bs ≡ stateSize) where
       pair-fits true w j i l r dropped (gone l) (gone r) (below-here mostNodes w j i l r below) (k .0) tt (drops-among j) tt
       (kept-gone-fits l (below-left mostNodes w j i l r below) (k .1)) (kept-gone-fits r (below-right mostNodes w j i l r below) (k .2))
 
-  pub kept-fits : {t : Tree} {s : State} → Below mostNodes t → Sized t → Rest t s → Kept t s bs → T (fitsUnder false t bs)
+  pub kept-fits : {t : Tree} {s : State} → Below mostNodes t → Sized t → AtRest t s → Kept t s bs → T (fitsUnder false t bs)
   unfolding Sized holds Kept leftOf rightOf isRunning among statusNumber
   kept-fits {t = leaf i r c₀ code} below z (leaf-waits {o = o} {c = c} n h) k =
       leaf-waits-fits i c₀ r code o c (below i (eqb-refl i)) (omega arith) n h k
@@ -398,14 +398,14 @@ module _ (bs : Bytes) (size : length bs ≡ stateSize) where
   kept-fits {t = leaf i r c₀ code} below z leaf-halted k = leaf-fits false i c₀ r code halted (below i (eqb-refl i)) k tt
   kept-fits {t = trivial i} below z trivial-ended k = trivial-fits false i ended (below i (eqb-refl i)) k tt
   kept-fits {t = unsatisfiable i} below z unsatisfiable-halted k = unsatisfiable-fits false i halted (below i (eqb-refl i)) k tt
-  kept-fits {t = node w j i l r} {s = over running false a b} below z (pair-runs p q e) k =
+  kept-fits {t = node w j i l r} {s = pairState running false a b} below z (pair-runs p q e) k =
       let bl : Below mostNodes l = below-left mostNodes w j i l r below in
       let br : Below mostNodes r = below-right mostNodes w j i l r below in
       let el : statusOf (statusAt bs (numberOf l)) ≡ status a = status-at l bs ∙ ap status (kept-load l a bs bl size (rest-stored (z .0) p) (k .1)) in
       let er : statusOf (statusAt bs (numberOf r)) ≡ status b = status-at r bs ∙ ap status (kept-load r b bs br size (rest-stored (z .1) q) (k .2)) in
       pair-fits false w j i l r running a b (below-here mostNodes w j i l r below) (k .0) tt (runs-among j)
       (rw (el, er) (joined-undecided j (status a) (status b) e)) (kept-fits bl (z .0) p (k .1)) (kept-fits br (z .1) q (k .2))
-  kept-fits {t = node w j i l r} {s = over x false a b} below z (pair-decided d p q) k =
+  kept-fits {t = node w j i l r} {s = pairState x false a b} below z (pair-decided d p q) k =
       let h = decided-parts j x d in
       let fl : T (fitsUnder true l bs) = kept-gone-fits l (below-left mostNodes w j i l r below) (subst (λ (s : State). Kept l s bs) p (k .1)) in
       let fr : T (fitsUnder true r bs) = kept-gone-fits r (below-right mostNodes w j i l r below) (subst (λ (s : State). Kept r s bs) q (k .2)) in
@@ -441,7 +441,7 @@ zeros-up-to bs (suc n) h =
     and-intro (eqb (zerosAt bs n) 0) (zerosUpTo bs n) (subst (λ (m : ℕ). T (eqb m 0)) (sym (h n (omega arith))) (eqb-refl 0)) (zeros-up-to bs n (λ i l. h i (omega arith)))
 
 module _ (n : ℕ) (most : n ≤ mostNodes) (t : Tree) (below : Below n t) where
-  pub rest-fits : Distinct t → Sized t → (s : State) → Rest t s → T (fitsUnder false t (saved t s))
+  pub rest-fits : Distinct t → Sized t → (s : State) → AtRest t s → T (fitsUnder false t (saved t s))
   rest-fits apart sized s rest =
       let b : Below mostNodes t = below-more n most t below in
       kept-fits (saved t s) (saved-length t b s) b sized rest (saved-kept t apart b s)
@@ -482,12 +482,12 @@ fitting policy bs h =
     record { nodes-fit = p .0; zeros = zeros-each bs (nodeCount policy) (p .1); rest-zero = p .2 }
 
 -- a state that fits is at rest
-pub fits-load : (policy bs : Bytes) → T (fits policy bs) → Rest (tree policy) (load (tree policy) bs)
+pub fits-load : (policy bs : Bytes) → T (fits policy bs) → AtRest (tree policy) (load (tree policy) bs)
 fits-load policy bs h = fits-rest (tree policy) bs (fitting policy bs h .nodes-fit)
 
 -- a state at rest, saved, fits
 pub fits-saved : (policy : Bytes) → nodeCount policy ≤ mostNodes → Below (nodeCount policy) (tree policy) → Distinct (tree policy) → Sized (tree policy)
-    → (s : State) → Rest (tree policy) s → T (fits policy (saved (tree policy) s))
+    → (s : State) → AtRest (tree policy) s → T (fits policy (saved (tree policy) s))
 unfolding fits
 fits-saved policy most below apart sized s rest =
     let n : ℕ = nodeCount policy in

@@ -1,5 +1,5 @@
 -- The fuel of a leaf that rule 6 lets pass does not run out: more fuel changes nothing, and going on obeys the step rule with no fuel
--- in sight. Assumes nothing.
+-- in sight.
 use Prim.Native.Nat.{ℕ, zero, suc, _+_, _-_, _<_}
 use native.Mathlib.Nat.{not-suc-le-zero, eq-or-lt-of-le}
 use native.Mathlib.Omega.{arith}

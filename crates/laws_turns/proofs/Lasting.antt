@@ -1,5 +1,5 @@
 -- What an answered call leaves behind: a state that fits the policy again and reads back as it was saved; after closing, a decided root.
--- So the guard never refuses its own state. Assumes nothing.
+-- So the guard never refuses its own state.
 use Prim.Native.Nat.{ℕ, _+_, _^_, _≤_, _<_}
 use native.Mathlib.Omega.{arith}
 use mathlib.Core.Path.{_≡_, refl, sym, _∙_, ap, subst}
@@ -9,13 +9,13 @@ use lib.Dec.{T, ltb, ltb→lt, nltb→le}
 use lib.ListN.{length, getD, List·getD-eq-default}
 use Rattle.actions.specs.Sets.{ActionSet}
 use Rattle.spec_policy.specs.Bytes.{Bytes, Small}
-use Rattle.spec_policy.specs.Records.{mostNodes, nodeCount, nodePlace, nodeAt, nodes, rowPlace, Node}
+use Rattle.spec_policy.specs.Records.{mostNodes, nodeCount, nodePlace, nodeAt, nodes, stepPlace, Node}
 use Rattle.spec_policy.specs.Steps.{Step, halt, isNext}
-use Rattle.spec_policy.specs.Tree.{places, noPlace, tree, Tree, leaf, trivial, unsatisfiable, node}
+use Rattle.spec_policy.specs.Tree.{nodesWithSteps, noNodeSteps, tree, Tree, leaf, trivial, unsatisfiable, node}
 use Rattle.spec_policy.proofs.NodeLaws.{noN, nodes-length, node-of}
 use Rattle.spec_policy.proofs.ByteLaws.{number-less}
-use Rattle.spec_check.proofs.Grown.{EachLeaf, grown-leaves}
-use Rattle.spec_check.specs.Numbers.{placeIn}
+use Rattle.spec_check.proofs.Under.{EachLeaf, under-leaves}
+use Rattle.spec_check.specs.Numbers.{nodeStepsIn}
 use Rattle.spec_check.proofs.Numbers.{same-node}
 use Rattle.spec_check.specs.Passed.{Passed}
 use Rattle.spec_check.proofs.Rows.{counts-fit, leaf-steps}
@@ -27,7 +27,7 @@ use Rattle.spec_turns.specs.Turn.{Request, opening, offer, close, call}
 use Rattle.spec_turns.specs.Saved.{stateSize, load, saved, fits}
 use Rattle.spec_turns.specs.Entries.{Reply, answers, refuses, carriedOut, Result, entry}
 use Rattle.spec_turns.proofs.Rest.{Over}
-use Rattle.spec_turns.specs.Rest.{Rest}
+use Rattle.spec_turns.specs.Rest.{AtRest}
 use Rattle.laws_turns.proofs.Cells.{below-more, lawful-apart, saved-length, load-saved}
 use Rattle.laws_turns.specs.Cells.{Below, Sized}
 use Rattle.laws_turns.proofs.Fits.{fits-load, fits-saved}
@@ -56,28 +56,28 @@ in-cells file ok = below-more (nodeCount file) (counts-fit file (ok .kept3) .few
 
 module _ (file : Bytes) (small : Small file) (ok : Passed file) where
   start-less : (i : ℕ) (b : Bool) → ltb i (nodeCount file) ≡ b → getD (nodes file) i noN .start < 256 ^ 4
-  unfolding nodeAt nodePlace rowPlace
+  unfolding nodeAt nodePlace stepPlace
   start-less i true e =
       let h : i < nodeCount file = ltb→lt i (nodeCount file) (subst T (sym e) tt) in
       subst (λ (x : Node). x .start < 256 ^ 4) (sym (node-of file i h))
       (number-less file (nodePlace i + 4) 4 small (omega (arith, counts-fit file (ok .kept3) .long)))
   start-less i false e =
       let h : nodeCount file ≤ i = nltb→le i (nodeCount file) (subst (λ (b : Bool). T (not b)) (sym e) tt) in
-      subst (λ (x : Node). x .start < 256 ^ 4) (sym (List·getD-eq-default (nodes file) noN (omega (arith, nodes-length file)))) (unfold noPlace in omega arith)
+      subst (λ (x : Node). x .start < 256 ^ 4) (sym (List·getD-eq-default (nodes file) noN (omega (arith, nodes-length file)))) (unfold noNodeSteps in omega arith)
 
   pub sized : Sized (tree file)
   unfolding tree
-  sized = sized-leaves (tree file) (grown-leaves (places file) LeafSized (λ i e. (
-    (λ o h. let l = leaf-steps file (ok .kept4) (ok .kept6) i e .few in let k = waits-in (placeIn (places file) i .steps) o h in omega arith),
+  sized = sized-leaves (tree file) (under-leaves (nodesWithSteps file) LeafSized (λ i e. (
+    (λ o h. let l = leaf-steps file (ok .kept4) (ok .kept6) i e .few in let k = waits-in (nodeStepsIn (nodesWithSteps file) i .steps) o h in omega arith),
     subst (λ (x : Node). x .start < 256 ^ 4) (sym (same-node file i)) (start-less i (ltb i (nodeCount file)) refl),
   )) (nodeCount file) 0)
 
   -- a state at rest is saved so that it fits, and reads back
-  pub saved-fits : (s : State) → Rest (tree file) s → T (fits file (saved (tree file) s))
+  pub saved-fits : (s : State) → AtRest (tree file) s → T (fits file (saved (tree file) s))
   saved-fits s h =
       fits-saved file (counts-fit file (ok .kept3) .few-nodes) (numbers-below-nodes file ok) (lawful-apart (tree file) (lawful file ok)) sized s h
 
-  pub reads-back : (s : State) → Rest (tree file) s → load (tree file) (saved (tree file) s) ≡ s
+  pub reads-back : (s : State) → AtRest (tree file) s → load (tree file) (saved (tree file) s) ≡ s
   reads-back s h = load-saved (tree file) (lawful-apart (tree file) (lawful file ok)) (in-cells file ok) sized s h
 
   pub saved-size : (s : State) → length (saved (tree file) s) ≡ stateSize
@@ -90,7 +90,7 @@ module _ (policy : Bytes) (state room : Bytes) where
   ends : Request → State
   ends q = outcome (call (tree policy) q (load (tree policy) state)) .state
 
-  rests : (q : Request) → Answered policy q state room → Rest (tree policy) (ends q)
+  rests : (q : Request) → Answered policy q state room → AtRest (tree policy) (ends q)
   unfolding ends Reads
   rests opening h = opening-fine (tree policy) (lawful policy (file-passed policy opening state room h)) (load (tree policy) state) .outs
   rests (offer a) h =

@@ -1,5 +1,5 @@
 -- "No change", to the byte: a state that fits is saved again as the bytes that it was read from. So a call that ends in the state that it
--- found leaves every byte of it. Assumes nothing.
+-- found leaves every byte of it.
 use Prim.Native.Nat.{ℕ, zero, _<_}
 use mathlib.Core.Path.{_≡_, refl, sym, ap, _∙_, subst}
 use mathlib.Core.Bool.{Bool, false, _&&_}

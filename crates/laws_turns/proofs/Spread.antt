@@ -1,4 +1,4 @@
--- One call lets out at most `spread` inserts, and writes at most one event more. Assumes nothing.
+-- One call lets out at most `spread` inserts, and writes at most one event more.
 use Prim.Native.Nat.{ℕ, _+_, _≤_}
 use native.Mathlib.Omega.{arith}
 use mathlib.Core.Path.{_≡_, refl, sym, _∙_}

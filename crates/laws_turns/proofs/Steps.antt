@@ -1,5 +1,5 @@
 -- A leaf runs each of its steps at most once in a turn: a turn, an opening and a closing run no more steps than the leaf has.
--- Assumes nothing.
+--
 use Prim.Native.Nat.{ℕ, suc, _+_, _-_, _≤_, _<_, zero-le}
 use native.Mathlib.Omega.{arith}
 use mathlib.Core.Path.{_≡_, refl, sym, _∙_, subst}
@@ -13,11 +13,11 @@ use Rattle.spec_policy.specs.Steps.{Step, next, ok, sup, ins, acase, spend, end
 use Rattle.spec_policy.specs.Tree.{leaf}
 use Rattle.spec_check.specs.Lawful.{AllAhead, Inside, Forward, LawfulLeaf}
 use Rattle.spec_turns.specs.Status.{running, isRunning}
-use Rattle.spec_turns.specs.State.{State, at, status, asked, offset, counter}
+use Rattle.spec_turns.specs.State.{State, leafState, status, asked, offset, counter}
 use Rattle.spec_turns.specs.Process.{Item, ran, lets, sups, accepts, suppresses, Out, Process, does, outcome, items, trace}
 use Rattle.spec_turns.specs.Turn.{before, after, closing, quiet, goes, takeOf, doneOf, leafWork, isAsked, ifAsked, phase, fresh}
 use Rattle.spec_turns.specs.Events.{stepsRun}
-use Rattle.spec_turns.specs.Rest.{Rest, leaf-waits, leaf-ended, leaf-halted}
+use Rattle.spec_turns.specs.Rest.{AtRest, leaf-waits, leaf-ended, leaf-halted}
 use Rattle.laws_turns.proofs.Fuel.{in-leaf}
 use Rattle.laws_turns.proofs.Count.{valued, count-items, weight, weight-if, noneIf, none-le, owing, price, prices, ahead, ahead-in, ahead-target, goes-le}
 use Rattle.laws_turns.specs.Counts.{worth, count, steps}
@@ -95,10 +95,10 @@ module _ (i c₀ : ℕ) {r : ActionSet} {code : List Step} (law : LawfulLeaf r c
 
   -- ---- the leaf as a node
 
-  turn-before : (a : Action) {s : State} → Rest (leaf i r c₀ code) s → steps-and-left (phase (leaf i r c₀ code) (before a) s) ≤ length code
+  turn-before : (a : Action) {s : State} → AtRest (leaf i r c₀ code) s → steps-and-left (phase (leaf i r c₀ code) (before a) s) ≤ length code
   unfolding phase ifAsked isAsked status isRunning quiet count outcome owing asked noneIf offset weight
   turn-before a (leaf-waits {o = o} {c = c} h b) =
-      weight-if (worth 1 0 0) left (has r a) _ _ (length code) (λ e. omega (arith, leaf-before a (at running false o c) h)) (λ e. zero-le)
+      weight-if (worth 1 0 0) left (has r a) _ _ (length code) (λ e. omega (arith, leaf-before a (leafState running false o c) h)) (λ e. zero-le)
   turn-before a leaf-ended = zero-le
   turn-before a leaf-halted = zero-le
 
@@ -111,7 +111,7 @@ module _ (i c₀ : ℕ) {r : ActionSet} {code : List Step} (law : LawfulLeaf r c
       go false = zero-le
 
   -- a turn, before the verdict and after it
-  pub steps-turn : (a : Action) {s : State} → Rest (leaf i r c₀ code) s
+  pub steps-turn : (a : Action) {s : State} → AtRest (leaf i r c₀ code) s
       → let p = phase (leaf i r c₀ code) (before a) s in steps p + steps (phase (leaf i r c₀ code) after (outcome p .state)) ≤ length code
   steps-turn a {s} h =
       let p = phase (leaf i r c₀ code) (before a) s in
@@ -121,10 +121,10 @@ module _ (i c₀ : ℕ) {r : ActionSet} {code : List Step} (law : LawfulLeaf r c
   unfolding fresh owing asked offset noneIf
   steps-opening h = omega (arith, steps-after (fresh (leaf i r c₀ code)), ahead-in 1 0 code 0 0 zero-le h, step-prices code)
 
-  pub steps-closing : {s : State} → Rest (leaf i r c₀ code) s → steps (phase (leaf i r c₀ code) closing s) ≤ length code
+  pub steps-closing : {s : State} → AtRest (leaf i r c₀ code) s → steps (phase (leaf i r c₀ code) closing s) ≤ length code
   unfolding phase ifAsked isAsked status isRunning quiet offset items trace stepsRun
   steps-closing (leaf-waits {o = o} {c = c} h b) =
-      let p = leafWork i code closing (at running false o c) in
-      omega (arith, steps-count p, leaf-closing (at running false o c) h)
+      let p = leafWork i code closing (leafState running false o c) in
+      omega (arith, steps-count p, leaf-closing (leafState running false o c) h)
   steps-closing leaf-ended = zero-le
   steps-closing leaf-halted = zero-le

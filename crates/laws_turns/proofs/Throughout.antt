@@ -1,5 +1,5 @@
 -- What the turn rules can put into a phase, whatever the state: never a verdict, and sides whose order is free only where the tree has
--- a parallel node. Assumes nothing.
+-- a parallel node.
 use Prim.Native.Nat.{ℕ, zero, suc}
 use mathlib.Core.Bool.{Bool, true, false, _&&_}
 use mathlib.Core.List.{List}

@@ -1,4 +1,4 @@
--- A phase of a passed policy runs at most 523,776 steps, whatever the state. Assumes nothing.
+-- A phase of a passed policy runs at most 523,776 steps, whatever the state.
 use Prim.Native.Nat.{ℕ, zero, suc, _+_, _*_, _≤_, _<_, zero-le}
 use native.Mathlib.Nat.{add-mul, mul-left-comm, mul-le-mul, mul-le-mul-left, le-mul-of-pos-right}
 use native.Mathlib.Omega.{arith}
@@ -13,7 +13,7 @@ use Rattle.spec_policy.specs.Lists.{one}
 use Rattle.spec_policy.specs.Records.{nodeCount}
 use Rattle.spec_policy.specs.Tree.{parallel, sequential, Tree, leaf, trivial, unsatisfiable, node, tree}
 use Rattle.spec_check.specs.Spread.{spread, spreadOf}
-use Rattle.spec_check.proofs.Grown.{EachLeaf}
+use Rattle.spec_check.proofs.Under.{EachLeaf}
 use Rattle.spec_check.specs.Lawful.{holds, Disjoint, Lawful}
 use Rattle.laws_check.proofs.LawfulTree.{lawful, numbers-below-nodes, spread-255, leaf-length}
 use Rattle.spec_check.specs.Passed.{Passed}

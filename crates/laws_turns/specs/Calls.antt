@@ -1,5 +1,5 @@
 -- What is said of an answered call: the state that it leaves, the events that it emits, and what it gives where it makes no change. That every call keeps
--- to it is proved in proofs/Lasting, proofs/Bounds and proofs/NoChange. Assumes nothing.
+-- to it is proved in proofs/Lasting, proofs/Bounds and proofs/NoChange.
 use Prim.Native.Nat.{ℕ, _+_, _*_, _≤_}
 use mathlib.Core.Path.{_≡_}
 use mathlib.Core.List.{[], _∷_}

@@ -1,5 +1,5 @@
 -- What is counted along a call or a phase: inserts and events, for "One call emits at most spread + 1 events." (proofs/Spread), and the single steps that
--- leaves run (proofs/Steps, proofs/Work). Assumes nothing.
+-- leaves run (proofs/Steps, proofs/Work).
 use Prim.Native.Nat.{ℕ, suc, _+_}
 use mathlib.Core.List.{List, [], _∷_}
 use Rattle.spec_turns.specs.Process.{Item, ran, lets, sups, accepts, suppresses, Process, stop, does, both, outcome, items, trace}

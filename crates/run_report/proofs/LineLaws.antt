@@ -1,4 +1,4 @@
--- Laws of lines: the words that the code puts, and one event's line after the others'. Assumes nothing.
+-- Laws of lines: the words that the code puts, and one event's line after the others'.
 use Prim.Native.Nat.{ℕ, zero, suc, _+_, _*_}
 use native.Mathlib.Numerals.{add-one}
 use native.Mathlib.Omega.{arith}

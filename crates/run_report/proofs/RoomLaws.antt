@@ -1,4 +1,4 @@
--- No text of a call is longer than `textRoom`, since actions are bytes and events are few. Assumes nothing.
+-- No text of a call is longer than `textRoom`, since actions are bytes and events are few.
 use Prim.Native.Nat.{ℕ, zero, suc, _+_, _*_, _≤_}
 use native.Mathlib.Omega.{arith}
 use mathlib.Core.Path.{_≡_, refl}

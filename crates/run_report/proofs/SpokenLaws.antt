@@ -1,4 +1,4 @@
--- What is said of a call, alone in a buffer. Assumes nothing.
+-- What is said of a call, alone in a buffer.
 use Prim.Native.Nat.{ℕ, _≤_}
 use mathlib.Core.Path.{_≡_, sym, ap}
 use mathlib.Core.Bool.{Bool}

@@ -1,4 +1,4 @@
--- The lines that guardrun prints. Assumes nothing.
+-- The lines that guardrun prints.
 use Prim.Native.Nat.{ℕ, zero, suc}
 use mathlib.Core.Bool.{true, false}
 use mathlib.Core.List.{[], _++_}

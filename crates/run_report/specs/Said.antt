@@ -1,4 +1,4 @@
--- What guardrun prints of each call. Assumes nothing.
+-- What guardrun prints of each call.
 use mathlib.Core.Bool.{Bool, true, false}
 use mathlib.Core.List.{[], _++_}
 use Rattle.spec_policy.specs.Bytes.{Bytes}

@@ -1,4 +1,4 @@
--- What is said of a call, in a lent buffer. Assumes nothing.
+-- What is said of a call, in a lent buffer.
 use Prim.Native.Nat.{ℕ, _≤_}
 use mathlib.Core.Path.{_≡_}
 use lib.ListN.{length}

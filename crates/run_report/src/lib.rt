@@ -20,6 +20,8 @@ use turn_state::ENDED_LEFT;
 use turn_state::ENDED_RIGHT;
 use turn_state::HALTED;
 use turn_state::RUNNING;
+use turn_told::EVENT_ACCEPTED;
+use turn_told::EVENT_SUPPRESSED;
 
 // Where the text ends, and whether it is the run's last.
 pub struct Told {
@@ -56,8 +58,8 @@ fn kind(k: u8) -> [u8; 4]
     ensures { λ r. ⌜ r ≡ kind k ⌝ }
 {
     match k {
-        1 => *b"acc ",
-        2 => *b"sup ",
+        EVENT_ACCEPTED => *b"acc ",
+        EVENT_SUPPRESSED => *b"sup ",
         _ => *b"ins ",
     }
 }

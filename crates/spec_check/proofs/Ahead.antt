@@ -1,4 +1,4 @@
--- What rule 6 gives of a leaf's steps: each leads into the leaf, and to a later step or to a next. Assumes nothing.
+-- What rule 6 gives of a leaf's steps: each leads into the leaf, and to a later step or to a next.
 use Prim.Native.Nat.{ℕ, zero, suc, _+_, _≤_, _<_}
 use native.Mathlib.Omega.{arith}
 use mathlib.Core.Path.{_≡_, refl, sym, _∙_, ap, subst}

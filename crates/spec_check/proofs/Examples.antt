@@ -1,4 +1,4 @@
--- The check gives every answer of the list, by computation. Assumes nothing.
+-- The check gives every answer of the list, by computation.
 use mathlib.Core.Path.{refl}
 use Rattle.actions.specs.Opened.{opened as sets}
 use Rattle.spec_policy.specs.Opened.{opened as files}

@@ -1,4 +1,4 @@
--- That a step inserts an action and nothing else: rule 4 says it of every step. Assumes nothing.
+-- That a step inserts an action and nothing else: rule 4 says it of every step.
 use mathlib.Core.Bool.{Bool, true}
 use Rattle.actions.specs.Sets.{isAction}
 use Rattle.spec_policy.specs.Steps.{Step, next, ok, sup, ins, acase, spend, end, halt}

@@ -1,6 +1,6 @@
 pub mod Ahead
 pub mod InsFits
-pub mod Grown
+pub mod Under
 pub mod Numbers
 pub mod Passed
 pub mod Rows

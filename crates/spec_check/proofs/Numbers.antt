@@ -1,5 +1,5 @@
 -- Rule 5, the tree rule: each number below the number of nodes stands in the tree exactly once (`all-held`, `distinct`), and no other number
--- does (`numbers-below`); the fuel of `tree` is enough; one step down the tree as the code reads the node's record. Assumes nothing.
+-- does (`numbers-below`); the fuel of `tree` is enough; one step down the tree as the code reads the node's record.
 use Prim.Native.Nat.{ℕ, zero, suc, _+_, _-_, _≤_, _<_}
 use native.Mathlib.Nat.{le-refl, zero-lt-suc}
 use native.Mathlib.Omega.{arith}
@@ -14,13 +14,13 @@ use Rattle.spec_policy.proofs.ListLaws.{everyAt-from-0}
 use Rattle.spec_policy.proofs.NodeLaws.{noN, nodes-length, node-of}
 use Rattle.spec_policy.specs.Bytes.{Bytes}
 use Rattle.spec_policy.specs.Lists.{one, occurs, everyAt}
-use Rattle.spec_policy.specs.Records.{Node, nodeAt, nodePlace, nodeCount, nodes, rows}
+use Rattle.spec_policy.specs.Records.{Node, nodeAt, nodePlace, nodeCount, nodes, stepRecords}
 use Rattle.spec_policy.specs.Steps.{Step, stepOf}
-use Rattle.spec_policy.specs.Tree.{Way, Join, NodeKind, aLeaf, aTrivial, anUnsatisfiable, aPair, noNode, nodeKind, owned, noPlace, placed, places, Tree, leaf, trivial, unsatisfiable, node, grown, treeAt, tree, numberOf}
+use Rattle.spec_policy.specs.Tree.{Way, Join, NodeKind, aLeaf, aTrivial, anUnsatisfiable, aPair, noNode, nodeKind, stepsOwned, noNodeSteps, withSteps, nodesWithSteps, Tree, leaf, trivial, unsatisfiable, node, treeUnder, treeAt, tree, numberOf}
 use Rattle.spec_check.specs.Children.{later, children, oneParent, broken5}
 use Rattle.spec_check.specs.Lawful.{holds, Disjoint, Numbered}
-use Rattle.spec_check.proofs.Grown.{shaped-same, grown-suc, grown-is}
-use Rattle.spec_check.specs.Numbers.{placeIn, nodeIn, kindIn, shaped, Distinct}
+use Rattle.spec_check.proofs.Under.{shaped-same, under-suc, under-is}
+use Rattle.spec_check.specs.Numbers.{nodeStepsIn, nodeIn, kindIn, shaped, Distinct}
 
 -- ---- how often n is a child
 
@@ -44,7 +44,7 @@ unfolding kids children occurs
 kids-pair n x w j e = rw (e, children) (omega arith)
 
 kids-none : (n : ℕ) → kids n noN ≡ 0
-unfolding kids children occurs noPlace nodeKind
+unfolding kids children occurs noNodeSteps nodeKind
 kids-none n = refl
 
 module _ (n : ℕ) where
@@ -143,23 +143,23 @@ module _ (xs : List Node) where
 
 -- ---- the nodes of the places
 
-placed-node : (xs : List Node) (ss : List Step) (i : ℕ) → nodeIn (placed xs ss) i ≡ getD xs i noN
-unfolding placed
+placed-node : (xs : List Node) (ss : List Step) (i : ℕ) → nodeIn (withSteps xs ss) i ≡ getD xs i noN
+unfolding withSteps
 placed-node [] ss i = refl
 placed-node (x ∷ xs) ss zero = refl
-placed-node (x ∷ xs) ss (suc i) = placed-node xs (drop (owned x) ss) i
+placed-node (x ∷ xs) ss (suc i) = placed-node xs (drop (stepsOwned x) ss) i
 
-pub same-node : (file : Bytes) (i : ℕ) → nodeIn (places file) i ≡ getD (nodes file) i noN
-unfolding places
-same-node file i = placed-node (nodes file) (map stepOf (rows file)) i
+pub same-node : (file : Bytes) (i : ℕ) → nodeIn (nodesWithSteps file) i ≡ getD (nodes file) i noN
+unfolding nodesWithSteps
+same-node file i = placed-node (nodes file) (map stepOf (stepRecords file)) i
 
 -- a place's node is the record that the file holds there
-pub node-in : (file : Bytes) (i : ℕ) → i < nodeCount file → nodeIn (places file) i ≡ nodeAt file (nodePlace i)
+pub node-in : (file : Bytes) (i : ℕ) → i < nodeCount file → nodeIn (nodesWithSteps file) i ≡ nodeAt file (nodePlace i)
 node-in file i h = same-node file i ∙ node-of file i h
 
 -- past the list there are no nodes
 pub node-inside : (xs : List Node) (i : ℕ) → (nodeKind (getD xs i noN .kind) ≡ noNode → ⊥) → i < length xs
-unfolding noPlace nodeKind
+unfolding noNodeSteps nodeKind
 node-inside [] i h = absurd (h refl)
 node-inside (x ∷ xs) zero h = zero-lt-suc (length xs)
 node-inside (x ∷ xs) (suc i) h = omega (arith, node-inside xs i h)
@@ -205,7 +205,7 @@ module _ (file : Bytes) (five : broken5 file ≡ false) where
       (everyAt-from-0 (later (nodeCount file)) (nodes file) noN all-later p (node-inside (nodes file) p (λ n. let z : _≡_ {A = ℕ} 0 1 = cc in omega arith)))
 
   -- "A child's number is greater than its parent's and less than n"
-  children-later : (i : ℕ) (w : Way) (j : Join) → kindIn (places file) i ≡ aPair w j → ChildrenLater (nodeCount file) i (nodeIn (places file) i)
+  children-later : (i : ℕ) (w : Way) (j : Join) → kindIn (nodesWithSteps file) i ≡ aPair w j → ChildrenLater (nodeCount file) i (nodeIn (nodesWithSteps file) i)
   children-later i w j e =
       subst (λ (x : Node). ChildrenLater (nodeCount file) i x) (sym (same-node file i))
       (nodes-later i w j (subst (λ (x : Node). nodeKind (x .kind) ≡ aPair w j) (same-node file i) e))
@@ -228,7 +228,7 @@ module _ (file : Bytes) (five : broken5 file ≡ false) where
       (or-cases (eqb n 0) (eqb (occurs n (children (nodes file))) 1)
       (everyAt-from-0 (λ i x. oneParent (nodes file) i) (nodes file) noN all-once n l))
 
-  kid-of : (i : ℕ) (s : Side) (w : Way) (j : Join) → kindIn (places file) i ≡ aPair w j → Kid (nodes file) i s (child s (nodeIn (places file) i))
+  kid-of : (i : ℕ) (s : Side) (w : Way) (j : Join) → kindIn (nodesWithSteps file) i ≡ aPair w j → Kid (nodes file) i s (child s (nodeIn (nodesWithSteps file) i))
   kid-of i s w j e =
       record {
         way = w;
@@ -244,8 +244,8 @@ module _ (file : Bytes) (five : broken5 file ≡ false) where
   under-one : (i n : ℕ) → T (eqb i n) → Reach (nodes file) i n
   under-one i n h = subst (λ (x : ℕ). Reach (nodes file) i x) (eqb→eq i n h) here
 
-  under-pair : (w : Way) (j : Join) (i : ℕ) (l r : Tree) → kindIn (places file) i ≡ aPair w j
-      → Under (nodeIn (places file) i .left) l → Under (nodeIn (places file) i .right) r → Under i (node w j i l r)
+  under-pair : (w : Way) (j : Join) (i : ℕ) (l r : Tree) → kindIn (nodesWithSteps file) i ≡ aPair w j
+      → Under (nodeIn (nodesWithSteps file) i .left) l → Under (nodeIn (nodesWithSteps file) i .right) r → Under i (node w j i l r)
   unfolding Under holds child
   under-pair w j i l r e x y n h =
       ⊎-elim (under-one i n)
@@ -253,17 +253,17 @@ module _ (file : Bytes) (five : broken5 file ≡ false) where
       (λ v. reach-trans (nodes file) once ordered (up on-right (kid-of i on-right w j e) here) (y n v)) (or-cases (holds l n) (holds r n) u))
       (or-cases (eqb i n) (holds l n || holds r n) h)
 
-  under : (fuel i : ℕ) → Under i (grown fuel (places file) i)
+  under : (fuel i : ℕ) → Under i (treeUnder fuel (nodesWithSteps file) i)
   unfolding Under holds
-  under = grown-is (places file) Under (λ i. under-one i) (λ i. under-one i) (λ i e. under-one i) under-pair
+  under = under-is (nodesWithSteps file) Under (λ i. under-one i) (λ i. under-one i) (λ i e. under-one i) under-pair
 
-  numbered-over : (i : ℕ) (w : Way) (j : Join) (l r : Tree) → kindIn (places file) i ≡ aPair w j
-      → Under (nodeIn (places file) i .left) l → Under (nodeIn (places file) i .right) r → Numbered i l r
+  numbered-over : (i : ℕ) (w : Way) (j : Join) (l r : Tree) → kindIn (nodesWithSteps file) i ≡ aPair w j
+      → Under (nodeIn (nodesWithSteps file) i .left) l → Under (nodeIn (nodesWithSteps file) i .right) r → Numbered i l r
   unfolding Under Disjoint child
   numbered-over i w j l r e x y =
-      let a : ℕ = nodeIn (places file) i .left in
-      let b : ℕ = nodeIn (places file) i .right in
-      let c : ChildrenLater (nodeCount file) i (nodeIn (places file) i) = children-later i w j e in
+      let a : ℕ = nodeIn (nodesWithSteps file) i .left in
+      let b : ℕ = nodeIn (nodesWithSteps file) i .right in
+      let c : ChildrenLater (nodeCount file) i (nodeIn (nodesWithSteps file) i) = children-later i w j e in
       record {
         sides = λ n.
             ⊎-elim (λ u. ⊎-elim (λ v. absurd (apart-paths (nodes file) once ordered i a b n (kid-of i on-left w j e) (kid-of i on-right w j e) (x n u) (y n v)))
@@ -273,19 +273,19 @@ module _ (file : Bytes) (five : broken5 file ≡ false) where
       }
 
   -- Both sides of a pair hold other numbers than the pair and than each other.
-  numbered : (i : ℕ) (w : Way) (j : Join) → kindIn (places file) i ≡ aPair w j
-      → Numbered i (treeAt file (nodeIn (places file) i .left)) (treeAt file (nodeIn (places file) i .right))
+  numbered : (i : ℕ) (w : Way) (j : Join) → kindIn (nodesWithSteps file) i ≡ aPair w j
+      → Numbered i (treeAt file (nodeIn (nodesWithSteps file) i .left)) (treeAt file (nodeIn (nodesWithSteps file) i .right))
   unfolding treeAt
   numbered i w j e =
-      let a : ℕ = nodeIn (places file) i .left in
-      let b : ℕ = nodeIn (places file) i .right in
+      let a : ℕ = nodeIn (nodesWithSteps file) i .left in
+      let b : ℕ = nodeIn (nodesWithSteps file) i .right in
       numbered-over i w j (treeAt file a) (treeAt file b) e (under (nodeCount file - a) a) (under (nodeCount file - b) b)
 
   -- the same of the whole tree
   pub distinct : Distinct (tree file)
   unfolding tree Distinct Under holds
   distinct =
-      grown-is (places file) (λ i t. Under i t × Distinct t) (λ i. (under-one i, tt)) (λ i. (under-one i, tt)) (λ i e. (under-one i, tt))
+      under-is (nodesWithSteps file) (λ i t. Under i t × Distinct t) (λ i. (under-one i, tt)) (λ i. (under-one i, tt)) (λ i e. (under-one i, tt))
       (λ w j i l r e x y. (under-pair w j i l r e (x .0) (y .0), (x .1, y .1, numbered-over i w j l r e (x .0) (y .0))))
       (nodeCount file) 0 .1
 
@@ -301,45 +301,45 @@ module _ (file : Bytes) (five : broken5 file ≡ false) where
   -- ---- the fuel
 
   -- The fuel of `tree` does not run out: more fuel than there are nodes from i on gives the same tree.
-  pub grown-enough : (fuel i : ℕ) → i < nodeCount file → nodeCount file ≤ fuel + i → grown (suc fuel) (places file) i ≡ grown fuel (places file) i
-  grown-enough zero i h l = absurd (omega arith)
-  grown-enough (suc fuel) i h l =
-      let a : ℕ = nodeIn (places file) i .left in
-      let b : ℕ = nodeIn (places file) i .right in
-      grown-suc (places file) (suc fuel) i
-      ∙ shaped-same (kindIn (places file) i) i (placeIn (places file) i)
-      (grown (suc fuel) (places file) a) (grown fuel (places file) a) (grown (suc fuel) (places file) b) (grown fuel (places file) b)
+  pub under-enough : (fuel i : ℕ) → i < nodeCount file → nodeCount file ≤ fuel + i → treeUnder (suc fuel) (nodesWithSteps file) i ≡ treeUnder fuel (nodesWithSteps file) i
+  under-enough zero i h l = absurd (omega arith)
+  under-enough (suc fuel) i h l =
+      let a : ℕ = nodeIn (nodesWithSteps file) i .left in
+      let b : ℕ = nodeIn (nodesWithSteps file) i .right in
+      under-suc (nodesWithSteps file) (suc fuel) i
+      ∙ shaped-same (kindIn (nodesWithSteps file) i) i (nodeStepsIn (nodesWithSteps file) i)
+      (treeUnder (suc fuel) (nodesWithSteps file) a) (treeUnder fuel (nodesWithSteps file) a) (treeUnder (suc fuel) (nodesWithSteps file) b) (treeUnder fuel (nodesWithSteps file) b)
       (λ w j e. (
-        grown-enough fuel a (children-later i w j e .left-below) (omega (arith, children-later i w j e .left-later)),
-        grown-enough fuel b (children-later i w j e .right-below) (omega (arith, children-later i w j e .right-later)),
+        under-enough fuel a (children-later i w j e .left-below) (omega (arith, children-later i w j e .left-later)),
+        under-enough fuel b (children-later i w j e .right-below) (omega (arith, children-later i w j e .right-later)),
       ))
-      ∙ sym (grown-suc (places file) fuel i)
+      ∙ sym (under-suc (nodesWithSteps file) fuel i)
 
-  grown-more : (d fuel i : ℕ) → i < nodeCount file → nodeCount file ≤ fuel + i → grown (d + fuel) (places file) i ≡ grown fuel (places file) i
-  grown-more zero fuel i h l = ap (λ (n : ℕ). grown n (places file) i) (omega arith)
-  grown-more (suc d) fuel i h l =
+  under-more : (d fuel i : ℕ) → i < nodeCount file → nodeCount file ≤ fuel + i → treeUnder (d + fuel) (nodesWithSteps file) i ≡ treeUnder fuel (nodesWithSteps file) i
+  under-more zero fuel i h l = ap (λ (n : ℕ). treeUnder n (nodesWithSteps file) i) (omega arith)
+  under-more (suc d) fuel i h l =
       let z : suc d + fuel ≡ suc (d + fuel) = omega arith in
-      ap (λ (n : ℕ). grown n (places file) i) z ∙ grown-enough (d + fuel) i h (omega arith) ∙ grown-more d fuel i h l
+      ap (λ (n : ℕ). treeUnder n (nodesWithSteps file) i) z ∙ under-enough (d + fuel) i h (omega arith) ∙ under-more d fuel i h l
 
-  grown-tree : (fuel i : ℕ) → i < nodeCount file → nodeCount file ≤ fuel + i → grown fuel (places file) i ≡ treeAt file i
+  under-tree : (fuel i : ℕ) → i < nodeCount file → nodeCount file ≤ fuel + i → treeUnder fuel (nodesWithSteps file) i ≡ treeAt file i
   unfolding treeAt
-  grown-tree fuel i h l =
+  under-tree fuel i h l =
       let z : fuel ≡ (fuel - (nodeCount file - i)) + (nodeCount file - i) = omega arith in
-      ap (λ (n : ℕ). grown n (places file) i) z ∙ grown-more (fuel - (nodeCount file - i)) (nodeCount file - i) i h (omega arith)
+      ap (λ (n : ℕ). treeUnder n (nodesWithSteps file) i) z ∙ under-more (fuel - (nodeCount file - i)) (nodeCount file - i) i h (omega arith)
 
   -- One step down the tree, with no fuel to be seen.
   pub tree-at : (i : ℕ) → i < nodeCount file
-      → treeAt file i ≡ shaped (kindIn (places file) i) i (placeIn (places file) i) (treeAt file (nodeIn (places file) i .left)) (treeAt file (nodeIn (places file) i .right))
+      → treeAt file i ≡ shaped (kindIn (nodesWithSteps file) i) i (nodeStepsIn (nodesWithSteps file) i) (treeAt file (nodeIn (nodesWithSteps file) i .left)) (treeAt file (nodeIn (nodesWithSteps file) i .right))
   tree-at i h =
-      let a : ℕ = nodeIn (places file) i .left in
-      let b : ℕ = nodeIn (places file) i .right in
+      let a : ℕ = nodeIn (nodesWithSteps file) i .left in
+      let b : ℕ = nodeIn (nodesWithSteps file) i .right in
       let fuel : ℕ = nodeCount file - suc i in
-      sym (grown-tree (suc fuel) i h (omega arith)) ∙ grown-suc (places file) fuel i
-      ∙ shaped-same (kindIn (places file) i) i (placeIn (places file) i)
-      (grown fuel (places file) a) (treeAt file a) (grown fuel (places file) b) (treeAt file b)
+      sym (under-tree (suc fuel) i h (omega arith)) ∙ under-suc (nodesWithSteps file) fuel i
+      ∙ shaped-same (kindIn (nodesWithSteps file) i) i (nodeStepsIn (nodesWithSteps file) i)
+      (treeUnder fuel (nodesWithSteps file) a) (treeAt file a) (treeUnder fuel (nodesWithSteps file) b) (treeAt file b)
       (λ w j e. (
-        grown-tree fuel a (children-later i w j e .left-below) (omega (arith, children-later i w j e .left-later)),
-        grown-tree fuel b (children-later i w j e .right-below) (omega (arith, children-later i w j e .right-later)),
+        under-tree fuel a (children-later i w j e .left-below) (omega (arith, children-later i w j e .left-later)),
+        under-tree fuel b (children-later i w j e .right-below) (omega (arith, children-later i w j e .right-later)),
       ))
 
 -- ---- node i, as the code reads it: its record begins at `place`
@@ -348,16 +348,16 @@ module _ (file : Bytes) {i place : ℕ} (h : i < nodeCount file) (p : place ≡ 
   abbrev x : Node
   x = nodeAt file place
 
-  pub node-read : nodeIn (places file) i ≡ x
+  pub node-read : nodeIn (nodesWithSteps file) i ≡ x
   node-read = node-in file i h ∙ ap (nodeAt file) (sym p)
 
-  pub kind-read : {k : NodeKind} → nodeKind (x .kind) ≡ k → kindIn (places file) i ≡ k
+  pub kind-read : {k : NodeKind} → nodeKind (x .kind) ≡ k → kindIn (nodesWithSteps file) i ≡ k
   kind-read e = ap (λ (y : Node). nodeKind (y .kind)) node-read ∙ e
 
   module _ (five : broken5 file ≡ false) where
-    pub tree-read : {k : NodeKind} → nodeKind (x .kind) ≡ k → treeAt file i ≡ shaped k i (placeIn (places file) i) (treeAt file (x .left)) (treeAt file (x .right))
+    pub tree-read : {k : NodeKind} → nodeKind (x .kind) ≡ k → treeAt file i ≡ shaped k i (nodeStepsIn (nodesWithSteps file) i) (treeAt file (x .left)) (treeAt file (x .right))
     tree-read e =
-        tree-at file five i h ∙ λ j. shaped (kind-read e j) i (placeIn (places file) i) (treeAt file (node-read j .left)) (treeAt file (node-read j .right))
+        tree-at file five i h ∙ λ j. shaped (kind-read e j) i (nodeStepsIn (nodesWithSteps file) i) (treeAt file (node-read j .left)) (treeAt file (node-read j .right))
 
     pub children-read : {w : Way} {j : Join} → nodeKind (x .kind) ≡ aPair w j → ChildrenLater (nodeCount file) i x
     children-read {w} {j} e = subst (λ (y : Node). ChildrenLater (nodeCount file) i y) node-read (children-later file five i w j (kind-read e))
@@ -391,12 +391,12 @@ module _ (file : Bytes) (five : broken5 file ≡ false) {p : ℕ} (h : p < nodeC
 -- `tree` is the one at node 0
 pub tree-top : (file : Bytes) → tree file ≡ treeAt file 0
 unfolding tree treeAt
-tree-top file = ap (λ (n : ℕ). grown n (places file) 0) (omega arith)
+tree-top file = ap (λ (n : ℕ). treeUnder n (nodesWithSteps file) 0) (omega arith)
 
 -- a tree carries the number that it was looked up by
 pub number-at : (file : Bytes) (i : ℕ) → numberOf (treeAt file i) ≡ i
 unfolding treeAt numberOf
-number-at file i = grown-is (places file) (λ k t. numberOf t ≡ k) (λ k. refl) (λ k. refl) (λ k e. refl) (λ w j k l r e x y. refl) (nodeCount file - i) i
+number-at file i = under-is (nodesWithSteps file) (λ k t. numberOf t ≡ k) (λ k. refl) (λ k. refl) (λ k e. refl) (λ w j k l r e x y. refl) (nodeCount file - i) i
 
 pub root-number : (file : Bytes) → numberOf (tree file) ≡ 0
 root-number file = ap numberOf (tree-top file) ∙ number-at file 0
@@ -467,20 +467,20 @@ module _ (file : Bytes) (five : broken5 file ≡ false) where
   lift : (p n : ℕ) (s : Side) → Kid (nodes file) p s n → p < nodeCount file → (k : ℕ) → T (holds (treeAt file n) k) → T (holds (treeAt file p) k)
   unfolding shaped holds child
   lift p n s kd l k u =
-      let a : ℕ = nodeIn (places file) p .left in
-      let b : ℕ = nodeIn (places file) p .right in
-      let e : kindIn (places file) p ≡ aPair (kd .way) (kd .join) =
+      let a : ℕ = nodeIn (nodesWithSteps file) p .left in
+      let b : ℕ = nodeIn (nodesWithSteps file) p .right in
+      let e : kindIn (nodesWithSteps file) p ≡ aPair (kd .way) (kd .join) =
       subst (λ (x : Node). nodeKind (x .kind) ≡ aPair (kd .way) (kd .join)) (sym (same-node file p)) (kd .pair) in
       let z : treeAt file p ≡ node (kd .way) (kd .join) p (treeAt file a) (treeAt file b) =
-      tree-at file five p l ∙ ap (λ (x : NodeKind). shaped x p (placeIn (places file) p) (treeAt file a) (treeAt file b)) e in
+      tree-at file five p l ∙ ap (λ (x : NodeKind). shaped x p (nodeStepsIn (nodesWithSteps file) p) (treeAt file a) (treeAt file b)) e in
       subst (λ (t : Tree). T (holds t k)) (sym z) (or-right (eqb p k) (holds (treeAt file a) k || holds (treeAt file b) k) (on s kd))
     where
-      on : (s : Side) → Kid (nodes file) p s n → T (holds (treeAt file (nodeIn (places file) p .left)) k || holds (treeAt file (nodeIn (places file) p .right)) k)
+      on : (s : Side) → Kid (nodes file) p s n → T (holds (treeAt file (nodeIn (nodesWithSteps file) p .left)) k || holds (treeAt file (nodeIn (nodesWithSteps file) p .right)) k)
       on on-left kd =
-          or-left (holds (treeAt file (nodeIn (places file) p .left)) k) (holds (treeAt file (nodeIn (places file) p .right)) k)
+          or-left (holds (treeAt file (nodeIn (nodesWithSteps file) p .left)) k) (holds (treeAt file (nodeIn (nodesWithSteps file) p .right)) k)
           (subst (λ (x : ℕ). T (holds (treeAt file x) k)) (sym (ap (λ (x : Node). x .left) (same-node file p) ∙ kd .is)) u)
       on on-right kd =
-          or-right (holds (treeAt file (nodeIn (places file) p .left)) k) (holds (treeAt file (nodeIn (places file) p .right)) k)
+          or-right (holds (treeAt file (nodeIn (nodesWithSteps file) p .left)) k) (holds (treeAt file (nodeIn (nodesWithSteps file) p .right)) k)
           (subst (λ (x : ℕ). T (holds (treeAt file x) k)) (sym (ap (λ (x : Node). x .right) (same-node file p) ∙ kd .is)) u)
 
   Within : ℕ → Type 0

@@ -1,5 +1,5 @@
 -- What the check's answer says of the rules: a pass that none is broken, a refusal that its rule is the broken one with the lowest number.
--- Assumes nothing.
+--
 use Prim.Native.Nat.{ℕ, zero, suc, _+_, _≤_, _<_}
 use native.Mathlib.Omega.{arith}
 use mathlib.Core.Path.{_≡_, refl, sym, _∙_, ap, subst}

@@ -1,4 +1,4 @@
--- The check: "Each rule is tried over the whole file." Assumes nothing.
+-- The check: "Each rule is tried over the whole file."
 use Prim.Native.Nat.{ℕ}
 use mathlib.Core.Bool.{Bool, true, false}
 use mathlib.Core.List.{List, [], _∷_}

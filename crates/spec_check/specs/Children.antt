@@ -1,4 +1,4 @@
--- Rule 5: the tree rule. Assumes nothing.
+-- Rule 5: the tree rule.
 use Prim.Native.Nat.{ℕ}
 use mathlib.Core.Bool.{Bool, true, _&&_, _||_, not}
 use mathlib.Core.List.{List, [], _∷_}

@@ -1,5 +1,5 @@
 -- The check on small files: each clause of each rule, just kept and just broken. A list for each rule, one statement over all.
--- Assumes nothing.
+--
 use Prim.Native.Nat.{ℕ, zero, suc, _+_, _*_, _^_}
 use mathlib.Core.Path.{_≡_}
 use mathlib.Core.List.{List, [], _∷_, _++_, map}

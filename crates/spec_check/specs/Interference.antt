@@ -1,4 +1,4 @@
--- Effect sets, and rule 9. Assumes nothing.
+-- Effect sets, and rule 9.
 use Prim.Native.Nat.{ℕ, suc}
 use mathlib.Core.Bool.{Bool, true, _&&_, _||_, not}
 use mathlib.Core.List.{List, [], _∷_}

@@ -1,5 +1,5 @@
 -- What a passed policy is, as the turn rules use it: the facts that rules 4 to 9 give of every leaf and of every pair of sides.
--- Assumes nothing.
+--
 use Prim.Native.Nat.{ℕ, _<_}
 use mathlib.Core.Path.{_≡_}
 use mathlib.Core.Logic.{_⊎_}

@@ -1,4 +1,4 @@
--- Rules 1 to 4: the file's front, and the layout of its records. Assumes nothing.
+-- Rules 1 to 4: the file's front, and the layout of its records.
 use Prim.Native.Nat.{_≤_}
 use mathlib.Core.Path.{_≡_}
 use mathlib.Core.Bool.{Bool, false, _&&_, _||_, not}
@@ -8,7 +8,7 @@ use lib.ListN.{length, getD}
 use Rattle.actions.specs.Sets.{isAction, isEmpty}
 use Rattle.spec_policy.specs.Bytes.{Bytes}
 use Rattle.spec_policy.specs.Lists.{every}
-use Rattle.spec_policy.specs.Records.{frontSize, mostNodes, mostSteps, mostLeafSteps, lengthField, versionField, nodeCount, stepCount, Node, Row, rowPlace, nodes, rows}
+use Rattle.spec_policy.specs.Records.{frontSize, mostNodes, mostSteps, mostLeafSteps, lengthField, versionField, nodeCount, stepCount, Node, StepRecord, stepPlace, nodes, stepRecords}
 use Rattle.spec_policy.specs.Tree.{NodeKind, aLeaf, aTrivial, anUnsatisfiable, aPair, noNode, nodeKind}
 
 -- 1: "fewer than 6 bytes, or the length field differs from the bytes given"
@@ -23,14 +23,14 @@ broken2 file = not (eqb (versionField file) 1)
 unfoldable pub broken3 : Bytes → Bool
 broken3 file =
     not (leb 1 (nodeCount file) && leb (nodeCount file) mostNodes && leb (stepCount file) mostSteps)
-    || not (eqb (length file) (rowPlace file (stepCount file)))
+    || not (eqb (length file) (stepPlace file (stepCount file)))
 
 -- Rule 3 kept: "nodes n, 1 to 31 .. steps m, 0 to 512 .. Length is 6 + 16n + 12m". `counts-fit` of proofs/Rows.
 pub record CountsFit (file : Bytes) : Type 0 where
   pub some-node : 1 ≤ nodeCount file
   pub few-nodes : nodeCount file ≤ mostNodes
   pub few-steps : stepCount file ≤ mostSteps
-  pub long : length file ≡ rowPlace file (stepCount file)
+  pub long : length file ≡ stepPlace file (stepCount file)
 
 -- "A leaf has step count 1 to 64 and a set that isn't empty; its left and right are zero, its counter start is free. Kinds 2 and
 -- 3 have zeros in all other fields. Kinds 4 to 7 have zeros in step count, counter and set."
@@ -42,21 +42,21 @@ nodeFits (aPair w j) x = eqb (x .count) 0 && eqb (x .start) 0 && eqb (x .set) 0
 nodeFits noNode x = false
 
 -- "Fields not used are zero."
-unfoldable pub noAction : Row → Bool
+unfoldable pub noAction : StepRecord → Bool
 noAction r = eqb (r .action) 0
 
-unfoldable pub noFirst : Row → Bool
+unfoldable pub noFirst : StepRecord → Bool
 noFirst r = eqb (r .first) 0
 
-unfoldable pub noSecond : Row → Bool
+unfoldable pub noSecond : StepRecord → Bool
 noSecond r = eqb (r .second) 0
 
-unfoldable pub noOperand : Row → Bool
+unfoldable pub noOperand : StepRecord → Bool
 noOperand r = eqb (r .operand) 0
 
 -- The table of kinds, by the fields that each uses. "An action is at most 63, n at most 4,294,967,295."
-unfoldable pub rowFits : Row → Bool
-rowFits r =
+unfoldable pub stepFits : StepRecord → Bool
+stepFits r =
     getD (false
     -- next: take, done
     ∷ (noAction r && noOperand r)
@@ -76,4 +76,4 @@ rowFits r =
 
 -- 4: "a field of a node or step breaks the layout above (child numbers apart)"
 unfoldable pub broken4 : Bytes → Bool
-broken4 file = not (every (λ x. nodeFits (nodeKind (x .kind)) x) (nodes file)) || not (every rowFits (rows file))
+broken4 file = not (every (λ x. nodeFits (nodeKind (x .kind)) x) (nodes file)) || not (every stepFits (stepRecords file))

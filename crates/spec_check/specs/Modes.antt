@@ -1,4 +1,4 @@
--- Rule 7: the mode rule. Assumes nothing.
+-- Rule 7: the mode rule.
 use Prim.Native.Nat.{ℕ, suc, _+_}
 use mathlib.Core.Bool.{Bool, true, false, _&&_, _||_, not}
 use mathlib.Core.List.{List, [], _∷_, _++_, List·Memᴰ}
@@ -7,7 +7,7 @@ use lib.ListN.{getD}
 use Rattle.spec_policy.specs.Bytes.{Bytes}
 use Rattle.spec_policy.specs.Lists.{one, everyAt}
 use Rattle.spec_policy.specs.Steps.{Step, next, ok, sup, ins, acase, spend, end, halt, isNext}
-use Rattle.spec_policy.specs.Tree.{places}
+use Rattle.spec_policy.specs.Tree.{nodesWithSteps}
 use Rattle.spec_check.specs.Leaves.{everyLeaf}
 
 -- "Three modes: idle, pending, closing."
@@ -112,4 +112,4 @@ modesFit code = everyAt (modeFits (marks code)) 0 code
 
 -- 7: "the mode rule is broken"
 unfoldable pub broken7 : Bytes → Bool
-broken7 file = not (everyLeaf (λ r code. modesFit code) (places file))
+broken7 file = not (everyLeaf (λ r code. modesFit code) (nodesWithSteps file))

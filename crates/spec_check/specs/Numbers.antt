@@ -1,25 +1,25 @@
 -- What is said of the tree of a file that keeps rule 5 (proved in proofs/Numbers): each node over the trees of its children, and each number once. For
--- "Tree: node 0 is the root. A child's number is greater than its parent's and less than n; every node but 0 is a child exactly once." Assumes nothing.
+-- "Tree: node 0 is the root. A child's number is greater than its parent's and less than n; every node but 0 is a child exactly once."
 use Prim.Native.Nat.{ℕ}
 use mathlib.Core.List.{List}
 use lib.ListN.{getD}
 use Rattle.spec_policy.specs.Records.{Node}
-use Rattle.spec_policy.specs.Tree.{NodeKind, aLeaf, aTrivial, anUnsatisfiable, aPair, noNode, nodeKind, Place, noPlace, Tree, leaf, trivial, unsatisfiable, node}
+use Rattle.spec_policy.specs.Tree.{NodeKind, aLeaf, aTrivial, anUnsatisfiable, aPair, noNode, nodeKind, NodeSteps, noNodeSteps, Tree, leaf, trivial, unsatisfiable, node}
 use Rattle.spec_check.specs.Lawful.{Numbered}
 
 -- ---- node i of the file: its record with its steps, its record, its kind
 
-abbrev pub placeIn : List Place → ℕ → Place
-placeIn ps i = getD ps i noPlace
+abbrev pub nodeStepsIn : List NodeSteps → ℕ → NodeSteps
+nodeStepsIn ps i = getD ps i noNodeSteps
 
-abbrev pub nodeIn : List Place → ℕ → Node
-nodeIn ps i = placeIn ps i .node
+abbrev pub nodeIn : List NodeSteps → ℕ → Node
+nodeIn ps i = nodeStepsIn ps i .node
 
-abbrev pub kindIn : List Place → ℕ → NodeKind
+abbrev pub kindIn : List NodeSteps → ℕ → NodeKind
 kindIn ps i = nodeKind (nodeIn ps i .kind)
 
 -- The tree of node i, which is p and of the given kind, over the trees l and r of its two children. `tree-at`: such is the tree at each node of the file.
-unfoldable pub shaped : NodeKind → ℕ → Place → Tree → Tree → Tree
+unfoldable pub shaped : NodeKind → ℕ → NodeSteps → Tree → Tree → Tree
 shaped noNode i p l r = trivial i
 shaped aLeaf i p l r = leaf i (p .node .set) (p .node .start) (p .steps)
 shaped aTrivial i p l r = trivial i

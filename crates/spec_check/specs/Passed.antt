@@ -1,4 +1,4 @@
--- What the check's two answers say of the rules: by the paper's numbers, whatever the order in which they are tried, and by that order. Assumes nothing.
+-- What the check's two answers say of the rules: by the paper's numbers, whatever the order in which they are tried, and by that order.
 use Prim.Native.Nat.{ℕ, _<_}
 use mathlib.Core.Path.{_≡_}
 use mathlib.Core.Bool.{Bool, true, false}

@@ -1,4 +1,4 @@
--- Possible actions, and rule 8. Assumes nothing.
+-- Possible actions, and rule 8.
 use Prim.Native.Nat.{ℕ, suc}
 use mathlib.Core.Path.{_≡_}
 use mathlib.Core.Bool.{Bool, true, _&&_, not}
@@ -9,7 +9,7 @@ use Rattle.actions.specs.Sets.{Action, ActionSet, EMPTY, union, common, differe
 use Rattle.spec_policy.specs.Bytes.{Bytes}
 use Rattle.spec_policy.specs.Lists.{everyAt}
 use Rattle.spec_policy.specs.Steps.{Step, next, ok, sup, ins, acase, spend, end, halt}
-use Rattle.spec_policy.specs.Tree.{places}
+use Rattle.spec_policy.specs.Tree.{nodesWithSteps}
 use Rattle.spec_check.specs.Leaves.{everyLeaf}
 
 -- What the paper says, as it says it: an action is possible at an offset by a chain of steps from a take target. `lawful/proofs/Possible`
@@ -69,4 +69,4 @@ allTaken r code = everyAt (branchesTaken (possible r code)) 0 code
 
 -- 8: "an acase has a branch that no possible action takes"
 unfoldable pub broken8 : Bytes → Bool
-broken8 file = not (everyLeaf allTaken (places file))
+broken8 file = not (everyLeaf allTaken (nodesWithSteps file))

@@ -1,4 +1,4 @@
--- Spread, and rule 10. Assumes nothing.
+-- Spread, and rule 10.
 use Prim.Native.Nat.{ℕ, _+_, _*_, _-_}
 use mathlib.Core.Bool.{Bool, _&&_, not}
 use mathlib.Core.List.{List, [], _∷_}

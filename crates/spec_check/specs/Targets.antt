@@ -1,4 +1,4 @@
--- Rule 6: where the steps lead. Assumes nothing.
+-- Rule 6: where the steps lead.
 use Prim.Native.Nat.{ℕ}
 use mathlib.Core.Bool.{Bool, true, _&&_, _||_, not}
 use mathlib.Core.List.{List, map}
@@ -9,7 +9,7 @@ use Rattle.spec_policy.specs.Bytes.{Bytes}
 use Rattle.spec_policy.specs.Lists.{summed, every, everyAt}
 use Rattle.spec_policy.specs.Records.{stepCount, nodes}
 use Rattle.spec_policy.specs.Steps.{Step, next, ok, sup, ins, acase, spend, end, halt, targets, isNext}
-use Rattle.spec_policy.specs.Tree.{owned, places}
+use Rattle.spec_policy.specs.Tree.{stepsOwned, nodesWithSteps}
 use Rattle.spec_check.specs.Leaves.{everyLeaf}
 
 -- "a target is outside its leaf; or a target is not later than its own step and is no next": not so, of target t of the step at o
@@ -33,4 +33,4 @@ targetsFit r code = everyAt (λ o k. asksWithin r k && every (targetFits code o)
 
 -- 6: "leaf step counts don't sum to m; or .."
 unfoldable pub broken6 : Bytes → Bool
-broken6 file = not (eqb (summed (map owned (nodes file))) (stepCount file)) || not (everyLeaf targetsFit (places file))
+broken6 file = not (eqb (summed (map stepsOwned (nodes file))) (stepCount file)) || not (everyLeaf targetsFit (nodesWithSteps file))

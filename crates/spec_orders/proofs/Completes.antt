@@ -1,4 +1,4 @@
--- Every order that was begun can be taken to its end. Assumes nothing.
+-- Every order that was begun can be taken to its end.
 use Prim.Native.Nat.{ℕ, zero, suc, _+_, _≤_}
 use native.Mathlib.Omega.{arith}
 use mathlib.Core.Logic.{_⊎_, inl, inr}

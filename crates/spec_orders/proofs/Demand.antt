@@ -1,4 +1,4 @@
--- The third demand, from what the check gives of a call: that its process is safe. Assumes nothing.
+-- The third demand, from what the check gives of a call: that its process is safe.
 use mathlib.Core.Path.{ap, ap₂}
 use lib.Dec.{T}
 use Rattle.spec_policy.specs.Bytes.{Bytes}

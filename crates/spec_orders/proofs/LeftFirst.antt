@@ -1,4 +1,4 @@
--- The order of the turn rules, left side first, is one of the orders. Assumes nothing.
+-- The order of the turn rules, left side first, is one of the orders.
 use Prim.Native.Nat.{ℕ, suc, _+_}
 use native.Mathlib.Omega.{arith}
 use mathlib.Core.Path.{_≡_, sym, subst}

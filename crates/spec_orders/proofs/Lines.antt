@@ -1,5 +1,5 @@
 -- Where a node has no parallel node beneath it, its phases hold no free order, and so have one order only: what the turn rules take
--- in line is in line already. Assumes nothing.
+-- in line is in line already.
 use mathlib.Core.Path.{_≡_, refl, ap}
 use mathlib.Core.Bool.{true, false}
 use mathlib.Core.List.{List, _∷_}

@@ -1,5 +1,5 @@
 -- What a move does to a process: the outcome stays, the moves left fall by one, what is seen is formed from the trace, and a
--- process whose sides leave each other alone stays so. Assumes nothing.
+-- process whose sides leave each other alone stays so.
 use Prim.Native.Nat.{ℕ, suc, _+_}
 use native.Mathlib.Omega.{arith}
 use mathlib.Core.Path.{_≡_, refl, sym, _∙_, ap, subst}

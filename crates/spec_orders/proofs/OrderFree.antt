@@ -1,4 +1,4 @@
--- Where the sides of every parallel node leave each other alone, all orders agree. Assumes nothing.
+-- Where the sides of every parallel node leave each other alone, all orders agree.
 use Prim.Native.Nat.{ℕ}
 use native.Mathlib.Omega.{arith}
 use mathlib.Core.Path.{_≡_, refl, sym, _∙_, ap, ap₂}

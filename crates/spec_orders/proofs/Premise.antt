@@ -1,4 +1,4 @@
--- The worked example for the third demand's premise, by computation. Assumes nothing.
+-- The worked example for the third demand's premise, by computation.
 use mathlib.Core.Path.{_≡_, refl, sym, _∙_, ap, fun-ext}
 use mathlib.Core.List.{List, [], _∷_, _++_}
 use Rattle.actions.specs.Sets.{ActionSet}

@@ -1,4 +1,4 @@
--- P11 closed right side first: the order by computation, what is said of it by the third demand. Assumes nothing.
+-- P11 closed right side first: the order by computation, what is said of it by the third demand.
 use mathlib.Core.Path.{_≡_, refl, sym, subst, _∙_}
 use mathlib.Core.List.{List, [], _∷_}
 use lib.ListN.{length}

@@ -1,4 +1,4 @@
--- The third demand of any commands. Assumes nothing.
+-- The third demand of any commands.
 use Prim.Native.Nat.{ℕ}
 use mathlib.Core.Path.{_≡_, refl, sym, _∙_, ap, ap₂, subst}
 use mathlib.Core.List.{List, [], _∷_}

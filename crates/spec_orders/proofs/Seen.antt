@@ -1,4 +1,4 @@
--- What holds of every list formed from a trace: its counts, its events, and what is kept of it by a test. Assumes nothing.
+-- What holds of every list formed from a trace: its counts, its events, and what is kept of it by a test.
 use Prim.Native.Nat.{ℕ, _+_}
 use native.Mathlib.Omega.{arith}
 use mathlib.Core.Path.{_≡_, refl, sym, _∙_, ap, ap₂, subst}

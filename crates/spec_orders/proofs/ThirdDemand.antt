@@ -1,4 +1,4 @@
--- The third demand, from the check's answer and the saved bytes. Assumes nothing.
+-- The third demand, from the check's answer and the saved bytes.
 use lib.Dec.{T}
 use mathlib.Core.Path.{_≡_}
 use Rattle.actions.specs.Sets.{ActionSet}

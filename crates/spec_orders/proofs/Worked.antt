@@ -1,4 +1,4 @@
--- The small cases of the third demand's words, by computation. Assumes nothing.
+-- The small cases of the third demand's words, by computation.
 use mathlib.Core.Path.{refl}
 use Rattle.actions.specs.Opened.{opened as sets}
 use Rattle.spec_policy.specs.Opened.{opened as files}

@@ -1,4 +1,4 @@
--- The third demand. Assumes nothing.
+-- The third demand.
 use Prim.Native.Nat.{ℕ}
 use mathlib.Core.Path.{_≡_}
 use mathlib.Core.Bool.{Bool, true, false, _&&_}

@@ -1,4 +1,4 @@
--- Orders: the two sides of every parallel node may take their single steps in any order. Assumes nothing.
+-- Orders: the two sides of every parallel node may take their single steps in any order.
 --
 -- A process is what a call is to do. Its `trace`, left side first, is what the turn rules say; here any side that can go on may go
 -- on. The single steps are the `ran` items. What a step brings about (an insert let out, an action suppressed, the verdict) and the

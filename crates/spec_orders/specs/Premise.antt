@@ -1,6 +1,6 @@
 -- This file is here to show why the third demand has its premise: on a passed policy that breaks it, what is let out depends on the
 -- order of the left part. "Giving upstream inserts in any order: a right side that accepts only the first of 3 and 6 would then choose
--- differently." Assumes nothing.
+-- differently."
 use Prim.Native.Nat.{ℕ, _+_, _^_}
 use mathlib.Core.Path.{_≡_}
 use mathlib.Core.Bool.{false}

@@ -1,5 +1,5 @@
 -- "P11 V parallel-and V′, closing: inserted 3, inserted 6.", closed right side first: a run whose order is not demand 2's, and what the
--- third demand says of it. Assumes nothing.
+-- third demand says of it.
 use Prim.Native.Nat.{ℕ}
 use mathlib.Core.Path.{_≡_}
 use mathlib.Core.List.{List, [], _∷_, _++_}

@@ -1,4 +1,4 @@
--- The third demand of "any commands": calls one after another, each with its parallel sides in an order of its own. Assumes nothing.
+-- The third demand of "any commands": calls one after another, each with its parallel sides in an order of its own.
 use Prim.Native.Nat.{ℕ}
 use mathlib.Core.Path.{_≡_}
 use mathlib.Core.List.{List, [], _∷_}

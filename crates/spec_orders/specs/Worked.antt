@@ -1,4 +1,4 @@
--- Small cases of what the third demand speaks of: which policies keep its premise, what a leaf inserts, and which item is the verdict. Assumes nothing.
+-- Small cases of what the third demand speaks of: which policies keep its premise, what a leaf inserts, and which item is the verdict.
 use Prim.Native.Nat.{ℕ}
 use mathlib.Core.Path.{_≡_}
 use mathlib.Core.Bool.{Bool, true, false}

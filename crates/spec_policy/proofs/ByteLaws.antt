@@ -1,4 +1,4 @@
--- Laws of bytes: what is read of bytes that were put, and numbers spelt and read back. Assumes nothing.
+-- Laws of bytes: what is read of bytes that were put, and numbers spelt and read back.
 use Prim.Native.Nat.{ℕ, zero, suc, _+_, _-_, _*_, _/_, _%_, _^_, _≤_, _<_}
 use native.Mathlib.Nat.{one-le-pow, zero-lt-suc, pow-succ', mod-eq-of-lt, mod-one, add-mul, mul-assoc, add-assoc, mul-add-mod-self-right}
 use native.Mathlib.Omega.{arith}

@@ -1,5 +1,5 @@
 -- A loop that tests f 0, f 1, .. below f n and leaves at the first that fails: what it carries along, and what each way out gives.
--- Assumes nothing.
+--
 use Prim.Native.Nat.{ℕ, _+_, _-_, _≤_, _<_}
 use native.Mathlib.Omega.{arith}
 use mathlib.Core.Path.{_≡_, sym, ap, _∙_}

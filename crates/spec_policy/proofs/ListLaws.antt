@@ -1,4 +1,4 @@
--- Laws of the lists and list tests of specs/Lists. Assumes nothing.
+-- Laws of the lists and list tests of specs/Lists.
 use Prim.Native.Nat.{ℕ, zero, suc, _+_, _-_, _<_, _≤_}
 use native.Mathlib.Nat.{le-of-suc-le-suc, not-suc-le-zero}
 use native.Mathlib.Omega.{arith}

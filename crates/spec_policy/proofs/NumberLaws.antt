@@ -1,4 +1,4 @@
--- Numbers in bytes: one byte, a number put together from two parts, and a number spelt again. Assumes nothing.
+-- Numbers in bytes: one byte, a number put together from two parts, and a number spelt again.
 use Prim.Native.Nat.{ℕ, suc, _+_, _*_, _^_, _≤_, _<_}
 use native.Mathlib.Omega.{arith}
 use mathlib.Core.Path.{_≡_, sym, ap, ap₂, _∙_, subst}

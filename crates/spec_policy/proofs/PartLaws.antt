@@ -1,11 +1,11 @@
--- Records read in a part of a file: they are those of the file. Assumes nothing.
+-- Records read in a part of a file: they are those of the file.
 use Prim.Native.Nat.{ℕ, _+_, _≤_}
 use native.Mathlib.Nat.{add-assoc}
 use native.Mathlib.Omega.{arith}
 use mathlib.Core.Path.{_≡_, sym, ap, _∙_}
 use lib.ListN.{length, take, drop}
 use Rattle.spec_policy.specs.Bytes.{Bytes, number}
-use Rattle.spec_policy.specs.Records.{nodeSize, stepSize, nodeAt, rowAt}
+use Rattle.spec_policy.specs.Records.{nodeSize, stepSize, nodeAt, stepRecordAt}
 use Rattle.spec_policy.proofs.ByteLaws.{number-part}
 
 module _ (bs : Bytes) (i n : ℕ) (inside : i + n ≤ length bs) (at : ℕ) where
@@ -23,9 +23,9 @@ module _ (bs : Bytes) (i n : ℕ) (inside : i + n ≤ length bs) (at : ℕ) wher
     set = field 8 8 (omega arith) x;
   }
 
-  pub row-part : at + stepSize ≤ n → rowAt (take n (drop i bs)) at ≡ rowAt bs (i + at)
-  unfolding rowAt
-  row-part h = λ x. record {
+  pub step-part : at + stepSize ≤ n → stepRecordAt (take n (drop i bs)) at ≡ stepRecordAt bs (i + at)
+  unfolding stepRecordAt
+  step-part h = λ x. record {
     kind = number-part bs i n at 1 (omega arith) inside x;
     action = field 1 1 (omega arith) x;
     first = field 2 1 (omega arith) x;

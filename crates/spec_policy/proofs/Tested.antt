@@ -1,4 +1,4 @@
--- Tests in a row as the code runs them: a test that fails ends them. Assumes nothing.
+-- Tests in a row as the code runs them: a test that fails ends them.
 use mathlib.Core.Path.{_≡_, sym, ap, _∙_}
 use mathlib.Core.Bool.{Bool, true, false, _&&_}
 use Rattle.actions.proofs.Tests.{true-not-false}

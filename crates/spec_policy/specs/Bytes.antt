@@ -1,4 +1,4 @@
--- Bytes, and numbers in them: "Big-endian". Assumes nothing.
+-- Bytes, and numbers in them: "Big-endian".
 use Prim.Native.Nat.{ℕ, zero, suc, _+_, _*_, _/_, _%_, _^_, _<_}
 use mathlib.Core.List.{List, [], _∷_, _++_}
 use lib.ListN.{length, getD, take, drop}

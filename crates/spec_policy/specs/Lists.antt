@@ -1,4 +1,4 @@
--- Lists: numbered, summed, tested whole. Assumes nothing.
+-- Lists: numbered, summed, tested whole.
 use Prim.Native.Nat.{ℕ, zero, suc, _+_}
 use mathlib.Core.Bool.{Bool, true, false, _&&_, _||_}
 use mathlib.Core.List.{List, [], _∷_}

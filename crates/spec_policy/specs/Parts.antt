@@ -1,5 +1,5 @@
 -- Files written out: a file from its records, and for worked examples a leaf with its steps, and files of one, two and more nodes.
--- Assumes nothing.
+--
 use Prim.Native.Nat.{ℕ, suc, _+_, _*_, _^_}
 use mathlib.Core.List.{List, [], _∷_, _++_}
 use Rattle.spec_policy.specs.Bytes.{Bytes, spell}

@@ -1,4 +1,4 @@
--- The file as it lies: its front, its node records and its step records. Assumes nothing.
+-- The file as it lies: its front, its node records and its step records.
 use Prim.Native.Nat.{ℕ, _+_, _*_}
 use mathlib.Core.List.{List}
 use lib.ListN.{take, drop}
@@ -65,15 +65,15 @@ nodeAt file at = record {
 }
 
 -- "Step: kind (1), action (1), first target (1), second target (1), operand (8)."
-pub record Row : Type 0 where
+pub record StepRecord : Type 0 where
   pub kind : ℕ
   pub action : ℕ
   pub first : ℕ
   pub second : ℕ
   pub operand : ℕ
 
-unfoldable pub rowAt : Bytes → ℕ → Row
-rowAt file at = record {
+unfoldable pub stepRecordAt : Bytes → ℕ → StepRecord
+stepRecordAt file at = record {
   kind = number file at 1;
   action = number file (at + 1) 1;
   first = number file (at + 2) 1;
@@ -85,17 +85,17 @@ rowAt file at = record {
 unfoldable pub nodePlace : ℕ → ℕ
 nodePlace i = frontSize + nodeSize * i
 
-unfoldable pub rowPlace : Bytes → ℕ → ℕ
+unfoldable pub stepPlace : Bytes → ℕ → ℕ
 unfolding nodePlace
-rowPlace file i = nodePlace (nodeCount file) + stepSize * i
+stepPlace file i = nodePlace (nodeCount file) + stepSize * i
 
 unfoldable pub nodes : Bytes → List Node
 unfolding nodePlace
 nodes file = listed (λ i. nodeAt file (nodePlace i)) 0 (nodeCount file)
 
-unfoldable pub rows : Bytes → List Row
-unfolding rowPlace
-rows file = listed (λ i. rowAt file (rowPlace file i)) 0 (stepCount file)
+unfoldable pub stepRecords : Bytes → List StepRecord
+unfolding stepPlace
+stepRecords file = listed (λ i. stepRecordAt file (stepPlace file i)) 0 (stepCount file)
 
 -- a file's own records, as they lie in it
 unfoldable pub nodeBytes : Bytes → Bytes

@@ -1,10 +1,10 @@
--- Steps: "A step holds its kind, and with it where it goes on". Assumes nothing.
+-- Steps: "A step holds its kind, and with it where it goes on".
 use Prim.Native.Nat.{ℕ}
 use mathlib.Core.Bool.{Bool, true, false}
 use mathlib.Core.List.{List, [], _∷_}
 use lib.ListN.{getD}
 use Rattle.actions.specs.Sets.{ActionSet}
-use Rattle.spec_policy.specs.Records.{Row}
+use Rattle.spec_policy.specs.Records.{StepRecord}
 
 -- "Targets are offsets within the leaf."
 pub data Step : Type 0 where
@@ -18,7 +18,7 @@ pub data Step : Type 0 where
   halt : Step
 
 -- The table of kinds: "Uses are listed first target first." Of a kind that is none of these rule 4 says the rest.
-unfoldable pub stepOf : Row → Step
+unfoldable pub stepOf : StepRecord → Step
 stepOf r =
     getD (halt
     ∷ next (r .first) (r .second)

@@ -1,11 +1,11 @@
--- The policy that a file holds: a tree of nodes, each leaf with its steps. Assumes nothing.
+-- The policy that a file holds: a tree of nodes, each leaf with its steps.
 use Prim.Native.Nat.{ℕ, zero, suc, _-_}
 use mathlib.Core.List.{List, [], _∷_, map}
 use lib.ListN.{getD, take, drop}
 use Rattle.actions.specs.Sets.{ActionSet, EMPTY, union}
 use Rattle.spec_policy.specs.Bytes.{Bytes}
 use Rattle.spec_policy.specs.Lists.{summed}
-use Rattle.spec_policy.specs.Records.{Node, nodeCount, nodes, rows}
+use Rattle.spec_policy.specs.Records.{Node, nodeCount, nodes, stepRecords}
 use Rattle.spec_policy.specs.Steps.{Step, stepOf}
 
 pub data Way : Type 0 where
@@ -24,8 +24,8 @@ nodeKind k =
     getD (noNode ∷ aLeaf ∷ aTrivial ∷ anUnsatisfiable ∷ aPair parallel and ∷ aPair sequential and ∷ aPair parallel or ∷ aPair sequential or ∷ []) k noNode
 
 -- "Each leaf owns the next run of steps, leaves in node order."
-unfoldable pub owned : Node → ℕ
-owned x = elim (nodeKind (x .kind)) [
+unfoldable pub stepsOwned : Node → ℕ
+stepsOwned x = elim (nodeKind (x .kind)) [
   | aLeaf ↦ x .count
   | aTrivial ↦ 0
   | anUnsatisfiable ↦ 0
@@ -35,22 +35,22 @@ owned x = elim (nodeKind (x .kind)) [
 
 -- so the steps of node i begin after those that the nodes before it own
 unfoldable pub firstStep : Bytes → ℕ → ℕ
-firstStep file i = summed (map owned (take i (nodes file)))
+firstStep file i = summed (map stepsOwned (take i (nodes file)))
 
 -- A node beside the steps that it owns.
-pub record Place : Type 0 where
+pub record NodeSteps : Type 0 where
   pub node : Node
   pub steps : List Step
 
-unfoldable pub placed : List Node → List Step → List Place
-placed [] ss = []
-placed (x ∷ xs) ss = record { node = x; steps = take (owned x) ss } ∷ placed xs (drop (owned x) ss)
+unfoldable pub withSteps : List Node → List Step → List NodeSteps
+withSteps [] ss = []
+withSteps (x ∷ xs) ss = record { node = x; steps = take (stepsOwned x) ss } ∷ withSteps xs (drop (stepsOwned x) ss)
 
-unfoldable pub noPlace : Place
-noPlace = record { node = record { kind = 0; left = 0; right = 0; count = 0; start = 0; set = 0 }; steps = [] }
+unfoldable pub noNodeSteps : NodeSteps
+noNodeSteps = record { node = record { kind = 0; left = 0; right = 0; count = 0; start = 0; set = 0 }; steps = [] }
 
-unfoldable pub places : Bytes → List Place
-places file = placed (nodes file) (map stepOf (rows file))
+unfoldable pub nodesWithSteps : Bytes → List NodeSteps
+nodesWithSteps file = withSteps (nodes file) (map stepOf (stepRecords file))
 
 -- Every node carries its number in the file.
 pub data Tree : Type 0 where
@@ -66,23 +66,23 @@ numberOf (unsatisfiable i) = i
 numberOf (node w j i l r) = i
 
 -- the tree under node i, no higher than the fuel
-unfoldable pub grown : ℕ → List Place → ℕ → Tree
-grown zero ps i = trivial i
-grown (suc fuel) ps i = let p = getD ps i noPlace in elim (nodeKind (p .node .kind)) [
+unfoldable pub treeUnder : ℕ → List NodeSteps → ℕ → Tree
+treeUnder zero ps i = trivial i
+treeUnder (suc fuel) ps i = let p = getD ps i noNodeSteps in elim (nodeKind (p .node .kind)) [
   | noNode ↦ trivial i
   | aLeaf ↦ leaf i (p .node .set) (p .node .start) (p .steps)
   | aTrivial ↦ trivial i
   | anUnsatisfiable ↦ unsatisfiable i
-  | aPair w j ↦ node w j i (grown fuel ps (p .node .left)) (grown fuel ps (p .node .right))
+  | aPair w j ↦ node w j i (treeUnder fuel ps (p .node .left)) (treeUnder fuel ps (p .node .right))
 ]
 
 -- "Tree: node 0 is the root." A child's number is greater than its parent's, so the number of nodes bounds the height.
 unfoldable pub tree : Bytes → Tree
-tree file = grown (nodeCount file) (places file) 0
+tree file = treeUnder (nodeCount file) (nodesWithSteps file) 0
 
 -- the tree under any node
 unfoldable pub treeAt : Bytes → ℕ → Tree
-treeAt file i = grown (nodeCount file - i) (places file) i
+treeAt file i = treeUnder (nodeCount file - i) (nodesWithSteps file) i
 
 -- "Kinds 2 and 3 have empty sets. Kinds 4 to 7: regulated set is the union of the two regulated sets".
 unfoldable pub regulated : Tree → ActionSet

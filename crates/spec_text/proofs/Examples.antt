@@ -1,4 +1,4 @@
--- Every text and every record of the lists, by computation. Assumes nothing.
+-- Every text and every record of the lists, by computation.
 use mathlib.Core.Path.{refl}
 use Rattle.actions.specs.Opened.{opened as sets}
 use Rattle.spec_policy.specs.Opened.{opened as files}

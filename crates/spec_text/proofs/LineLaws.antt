@@ -1,5 +1,5 @@
 -- A line that was printed is read back as the fields that it says. One lemma over what a line may say, one over the table of lines.
--- Assumes nothing.
+--
 use Prim.Native.Nat.{ℕ, _≤_}
 use native.Mathlib.Omega.{arith}
 use mathlib.Core.Path.{_≡_, refl, ap, _∙_, sym}

@@ -1,4 +1,4 @@
--- A set that was printed is read back. Assumes nothing.
+-- A set that was printed is read back.
 use Prim.Native.Nat.{ℕ, zero, suc, _+_, _≤_, _<_, _/_, _%_, _^_}
 use native.Mathlib.Omega.{arith}
 use mathlib.Core.Path.{_≡_, refl, ap, _∙_, sym, subst}

@@ -1,4 +1,4 @@
--- A number that was printed is read back, and what is printed of it is a word. Assumes nothing.
+-- A number that was printed is read back, and what is printed of it is a word.
 use Prim.Native.Nat.{ℕ, zero, suc, _+_, _-_, _*_, _/_, _%_, _≤_, _<_}
 use native.Mathlib.Omega.{arith}
 use mathlib.Core.Path.{_≡_, refl, ap, _∙_, sym}

@@ -1,4 +1,4 @@
--- Every file that the check passes has a text, from which its records are read back. Assumes nothing.
+-- Every file that the check passes has a text, from which its records are read back.
 use Prim.Native.Nat.{ℕ, zero, suc, _+_, _*_, _/_, _≤_, _<_}
 use native.Mathlib.Nat.{mul-add}
 use native.Mathlib.Omega.{arith}
@@ -12,16 +12,16 @@ use Rattle.actions.specs.Sets.{ActionSet}
 use Rattle.actions.proofs.Tests.{yes-of, and-intro, and-left}
 use Rattle.spec_policy.specs.Bytes.{Bytes, number, Small}
 use Rattle.spec_policy.specs.Lists.{summed, every, listed}
-use Rattle.spec_policy.specs.Records.{Node, Row, frontSize, nodeAt, rowAt, nodePlace, rowPlace, nodeCount, stepCount, nodes, rows, nodeBytes, stepBytes}
-use Rattle.spec_policy.specs.Tree.{NodeKind, aLeaf, aTrivial, anUnsatisfiable, aPair, noNode, nodeKind, owned}
+use Rattle.spec_policy.specs.Records.{Node, StepRecord, frontSize, nodeAt, stepRecordAt, nodePlace, stepPlace, nodeCount, stepCount, nodes, stepRecords, nodeBytes, stepBytes}
+use Rattle.spec_policy.specs.Tree.{NodeKind, aLeaf, aTrivial, anUnsatisfiable, aPair, noNode, nodeKind, stepsOwned}
 use Rattle.spec_policy.proofs.ByteLaws.{small-take, small-drop, number-less, part-part}
 use Rattle.spec_policy.proofs.NumberLaws.{number-byte}
-use Rattle.spec_policy.proofs.PartLaws.{node-part, row-part}
-use Rattle.spec_check.specs.Layout.{nodeFits, rowFits, CountsFit}
+use Rattle.spec_policy.proofs.PartLaws.{node-part, step-part}
+use Rattle.spec_check.specs.Layout.{nodeFits, stepFits, CountsFit}
 use Rattle.spec_check.specs.Check.{passes, check}
 use Rattle.spec_check.specs.Passed.{Passed}
 use Rattle.spec_check.proofs.Passed.{passed}
-use Rattle.spec_check.proofs.Rows.{counts-fit, node-bytes-length, step-bytes-length, nodes-fit, rows-fit, all-owned}
+use Rattle.spec_check.proofs.Rows.{counts-fit, node-bytes-length, step-bytes-length, nodes-fit, steps-fit, all-owned}
 use Rattle.spec_text.specs.Words.{sameBytes, newline}
 use Rattle.spec_text.specs.Forms.{Sort, node, step, size, fieldsIn, recordOf, place, bound, Form, bare}
 use Rattle.spec_text.specs.Printing.{Print, text, both, lineText, said, countIn, says, printedIf, recordText, stepsText, nodesText, printed}
@@ -61,8 +61,8 @@ module _ (bs : Bytes) (small : Small bs) where
       (byte-bound 1 (omega arith)) (byte-bound 2 (omega arith)) (byte-bound 3 (omega arith)) (omega (arith, number-less bs 4 4 small (omega arith)))
       (number-less bs 8 8 small (omega arith)) t))
 
-  row-has : (j : ℕ) → length bs ≡ size step → T (rowFits (rowAt bs 0)) → HasText (recordText step j bs)
-  unfolding fieldsIn countIn rowAt size
+  row-has : (j : ℕ) → length bs ≡ size step → T (stepFits (stepRecordAt bs 0)) → HasText (recordText step j bs)
+  unfolding fieldsIn countIn stepRecordAt size
   row-has j h t =
       record-has step j bs (record-again bs small step h)
       (subst (λ (k : ℕ). Told step k 0 (fieldsIn step bs)) (number-byte bs 0 (omega arith))
@@ -76,8 +76,8 @@ unfolding both
 both-has p q h k = (h .0 ++ k .0, rw (h .1, k .1))
 
 -- a node that keeps rule 4 owns as many steps as it counts
-owned-count : (x : Node) → T (nodeFits (nodeKind (x .kind)) x) → owned x ≡ x .count
-unfolding owned nodeFits
+owned-count : (x : Node) → T (nodeFits (nodeKind (x .kind)) x) → stepsOwned x ≡ x .count
+unfolding stepsOwned nodeFits
 owned-count x h = go (nodeKind (x .kind)) refl
   where
     lone : T (eqb (x .left) 0 && eqb (x .right) 0 && eqb (x .count) 0 && eqb (x .start) 0 && eqb (x .set) 0) → 0 ≡ x .count
@@ -85,12 +85,12 @@ owned-count x h = go (nodeKind (x .kind)) refl
         sym (zero-4 (x .left) (x .right) (x .count) (x .start)
         (and-left (eqb (x .left) 0 && eqb (x .right) 0 && eqb (x .count) 0 && eqb (x .start) 0) (eqb (x .set) 0) t) .2)
 
-    go : (k : NodeKind) → nodeKind (x .kind) ≡ k → owned x ≡ x .count
-    go aLeaf e = rw (e, owned)
-    go aTrivial e = rw (e, owned) (lone (rw e at h))
-    go anUnsatisfiable e = rw (e, owned) (lone (rw e at h))
+    go : (k : NodeKind) → nodeKind (x .kind) ≡ k → stepsOwned x ≡ x .count
+    go aLeaf e = rw (e, stepsOwned)
+    go aTrivial e = rw (e, stepsOwned) (lone (rw e at h))
+    go anUnsatisfiable e = rw (e, stepsOwned) (lone (rw e at h))
     go noNode e = absurd (rw e at h)
-    go (aPair w j) e = rw (e, owned) (sym (zero-3 (x .count) (x .start) (x .set) (rw e at h) .0))
+    go (aPair w j) e = rw (e, stepsOwned) (sym (zero-3 (x .count) (x .start) (x .set) (rw e at h) .0))
 
 -- k records further on
 further : (size k j : ℕ) (bs : Bytes) → drop (size * (j + k)) bs ≡ drop (size * k) (drop (size * j) bs)
@@ -104,8 +104,8 @@ module _ (bs : Bytes) (at : ℕ) where
   node-cut : at + 16 ≤ length bs → nodeAt (take 16 (drop at bs)) 0 ≡ nodeAt bs at
   node-cut h = node-part bs at 16 h 0 (omega arith) ∙ ap (nodeAt bs) here
 
-  row-cut : at + 12 ≤ length bs → rowAt (take 12 (drop at bs)) 0 ≡ rowAt bs at
-  row-cut h = row-part bs at 12 h 0 (omega arith) ∙ ap (rowAt bs) here
+  row-cut : at + 12 ≤ length bs → stepRecordAt (take 12 (drop at bs)) 0 ≡ stepRecordAt bs at
+  row-cut h = step-part bs at 12 h 0 (omega arith) ∙ ap (stepRecordAt bs) here
 
 module _ (file : Bytes) (small : Small file) (ok : Passed file) where
   counts : CountsFit file
@@ -113,29 +113,29 @@ module _ (file : Bytes) (small : Small file) (ok : Passed file) where
 
   -- where a record lies among the records, and where in the file
   node-lies : (i : ℕ) → i < nodeCount file → take (size node) (drop (size node * i) (nodeBytes file)) ≡ take (size node) (drop (nodePlace i) file)
-  unfolding nodeBytes size rowPlace nodePlace
+  unfolding nodeBytes size stepPlace nodePlace
   node-lies i h = part-part file frontSize (16 * nodeCount file) (16 * i) 16 (omega arith) (omega (arith, counts .long))
 
-  row-lies : (j : ℕ) → j < stepCount file → take (size step) (drop (size step * j) (stepBytes file)) ≡ take (size step) (drop (rowPlace file j) file)
-  unfolding stepBytes size rowPlace nodePlace
+  row-lies : (j : ℕ) → j < stepCount file → take (size step) (drop (size step * j) (stepBytes file)) ≡ take (size step) (drop (stepPlace file j) file)
+  unfolding stepBytes size stepPlace nodePlace
   row-lies j h = part-part file (nodePlace (nodeCount file)) (12 * stepCount file) (12 * j) 12 (omega arith) (omega (arith, counts .long))
 
   node-inside : (i : ℕ) → i < nodeCount file → nodePlace i + 16 ≤ length file
-  unfolding rowPlace nodePlace
+  unfolding stepPlace nodePlace
   node-inside i h = omega (arith, counts .long)
 
-  row-inside : (j : ℕ) → j < stepCount file → rowPlace file j + 12 ≤ length file
-  unfolding rowPlace nodePlace
-  row-inside j h = omega (arith, counts .long)
+  step-inside : (j : ℕ) → j < stepCount file → stepPlace file j + 12 ≤ length file
+  unfolding stepPlace nodePlace
+  step-inside j h = omega (arith, counts .long)
 
   -- rule 4, of each record
   node-fits : (i : ℕ) → i < nodeCount file → T (nodeFits (nodeKind (nodeAt file (nodePlace i) .kind)) (nodeAt file (nodePlace i)))
   unfolding nodes
   node-fits i h = every-listed (λ x. nodeFits (nodeKind (x .kind)) x) (λ i. nodeAt file (nodePlace i)) (nodeCount file) (nodes-fit file (ok .kept4)) i h
 
-  row-fits : (j : ℕ) → j < stepCount file → T (rowFits (rowAt file (rowPlace file j)))
-  unfolding rows
-  row-fits j h = every-listed rowFits (λ j. rowAt file (rowPlace file j)) (stepCount file) (rows-fit file (ok .kept4)) j h
+  step-fits : (j : ℕ) → j < stepCount file → T (stepFits (stepRecordAt file (stepPlace file j)))
+  unfolding stepRecords
+  step-fits j h = every-listed stepFits (λ j. stepRecordAt file (stepPlace file j)) (stepCount file) (steps-fit file (ok .kept4)) j h
 
   -- ---- each record has a line
 
@@ -149,7 +149,7 @@ module _ (file : Bytes) (small : Small file) (ok : Passed file) where
         (length-take-le 16 (drop (nodePlace i) file) (simp length-drop (omega (arith, node-inside i h))))
         (subst (λ (x : Node). T (nodeFits (nodeKind (x .kind)) x)) (sym (node-cut file (nodePlace i) (node-inside i h))) (node-fits i h)))
 
-    node-count : countIn node (take (size node) (drop (size node * i) (nodeBytes file))) ≡ owned (nodeAt file (nodePlace i))
+    node-count : countIn node (take (size node) (drop (size node * i) (nodeBytes file))) ≡ stepsOwned (nodeAt file (nodePlace i))
     unfolding size countIn
     node-count =
         ap (countIn node) (node-lies i h) ∙ ap (λ (x : Node). x .count) (node-cut file (nodePlace i) (node-inside i h))
@@ -158,11 +158,11 @@ module _ (file : Bytes) (small : Small file) (ok : Passed file) where
   row-line : (j o : ℕ) → j < stepCount file → HasText (recordText step o (take (size step) (drop (size step * j) (stepBytes file))))
   unfolding size
   row-line j o h =
-      let bs : Bytes = take 12 (drop (rowPlace file j) file) in
+      let bs : Bytes = take 12 (drop (stepPlace file j) file) in
       subst (λ (x : Bytes). HasText (recordText step o x)) (sym (row-lies j h))
-      (row-has bs (small-take 12 (drop (rowPlace file j) file) (small-drop (rowPlace file j) file small)) o
-      (length-take-le 12 (drop (rowPlace file j) file) (simp length-drop (omega (arith, row-inside j h))))
-      (subst (λ (x : Row). T (rowFits x)) (sym (row-cut file (rowPlace file j) (row-inside j h))) (row-fits j h)))
+      (row-has bs (small-take 12 (drop (stepPlace file j) file) (small-drop (stepPlace file j) file small)) o
+      (length-take-le 12 (drop (stepPlace file j) file) (simp length-drop (omega (arith, step-inside j h))))
+      (subst (λ (x : StepRecord). T (stepFits x)) (sym (row-cut file (stepPlace file j) (step-inside j h))) (step-fits j h)))
 
   -- ---- and so have all
 
@@ -174,7 +174,7 @@ module _ (file : Bytes) (small : Small file) (ok : Passed file) where
       both-has (recordText step o (take (size step) (drop (size step * j) (stepBytes file)))) (stepsText k (suc o) rest) (row-line j o (omega arith))
       (subst (λ (x : Bytes). HasText (stepsText k (suc o) x)) (further (size step) 1 j (stepBytes file)) (steps-have k (j + 1) (suc o) (omega arith)))
 
-  nodes-have : (n i j : ℕ) → i + n ≡ nodeCount file → j + summed (map owned (listed (λ i. nodeAt file (nodePlace i)) i n)) ≡ stepCount file
+  nodes-have : (n i j : ℕ) → i + n ≡ nodeCount file → j + summed (map stepsOwned (listed (λ i. nodeAt file (nodePlace i)) i n)) ≡ stepCount file
       → HasText (nodesText n i (drop (size node * i) (nodeBytes file)) (drop (size step * j) (stepBytes file)))
   unfolding nodesText listed summed size
   nodes-have zero i j h e =
@@ -185,7 +185,7 @@ module _ (file : Bytes) (small : Small file) (ok : Passed file) where
       let ns : Bytes = drop (16 * i) (nodeBytes file) in
       let ss : Bytes = drop (12 * j) (stepBytes file) in
       let c : ℕ = countIn node (take 16 ns) in
-      let ec : c ≡ owned (nodeAt file (nodePlace i)) = node-count i (omega arith) in
+      let ec : c ≡ stepsOwned (nodeAt file (nodePlace i)) = node-count i (omega arith) in
       let z : suc i ≡ i + 1 = omega arith in
       let a : drop (16 * suc i) (nodeBytes file) ≡ drop 16 ns = ap (λ (m : ℕ). drop (16 * m) (nodeBytes file)) z ∙ further 16 1 i (nodeBytes file) in
       let b : drop (12 * (j + c)) (stepBytes file) ≡ drop (12 * c) ss = further 12 c j (stepBytes file) in

@@ -1,4 +1,4 @@
--- What the table of lines gives: what every form passes, the form found passes; its first word leads to it again, and is a word. Assumes nothing.
+-- What the table of lines gives: what every form passes, the form found passes; its first word leads to it again, and is a word.
 use Prim.Native.Nat.{ℕ}
 use native.Mathlib.Omega.{arith}
 use mathlib.Core.Path.{_≡_, refl, subst}

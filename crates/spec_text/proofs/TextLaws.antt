@@ -1,4 +1,4 @@
--- What is printed is read back: of a record, of a leaf's steps, of all records. Assumes nothing.
+-- What is printed is read back: of a record, of a leaf's steps, of all records.
 use Prim.Native.Nat.{ℕ, zero, suc, _+_, _*_, _/_, _≤_}
 use native.Mathlib.Omega.{arith}
 use mathlib.Core.Path.{_≡_, refl, ap, _∙_, sym, subst}

@@ -1,4 +1,4 @@
--- A record that keeps rule 4 is all said by its line: by kind, over the fields. Assumes nothing.
+-- A record that keeps rule 4 is all said by its line: by kind, over the fields.
 use Prim.Native.Nat.{ℕ, zero, suc, _^_, _≤_, _<_}
 use native.Mathlib.Omega.{arith}
 use mathlib.Core.Path.{_≡_, refl}
@@ -11,7 +11,7 @@ use Rattle.actions.specs.Sets.{isAction, isEmpty}
 use Rattle.actions.proofs.Tests.{and-intro, and-left, and-right}
 use Rattle.spec_policy.specs.Lists.{every}
 use Rattle.spec_policy.specs.Tree.{nodeKind}
-use Rattle.spec_check.specs.Layout.{nodeFits, noAction, noFirst, noSecond, noOperand, rowFits}
+use Rattle.spec_check.specs.Layout.{nodeFits, noAction, noFirst, noSecond, noOperand, stepFits}
 use Rattle.spec_text.specs.Forms.{Sort, node, step, sameSort, Fields, recordOf, Slot, actions, place, bound, byte, word, Form, forms, firstOf, ofKind}
 use Rattle.spec_text.specs.Printing.{said}
 use Rattle.spec_text.proofs.LineLaws.{Fits}
@@ -102,15 +102,15 @@ node-told (suc (suc (suc (suc (suc (suc (suc (suc k)))))))) l r c s t bl br bc b
 -- ---- steps
 
 module _ (k a f s o : ℕ) where
-  abbrev rowFields : Fields
-  rowFields = k ∷ a ∷ f ∷ s ∷ o ∷ []
+  abbrev stepFields : Fields
+  stepFields = k ∷ a ∷ f ∷ s ∷ o ∷ []
 
   -- both targets, before or after an operand
-  targets-fit : f ≤ 255 → s ≤ 255 → Fits rowFields (byte 2 ∷ byte 3 ∷ [])
+  targets-fit : f ≤ 255 → s ≤ 255 → Fits stepFields (byte 2 ∷ byte 3 ∷ [])
   unfolding place bound
-  targets-fit bf bs = fits-more (byte 2) (byte 3 ∷ []) rowFields bf (fits-more (byte 3) [] rowFields bs (fits-none rowFields))
+  targets-fit bf bs = fits-more (byte 2) (byte 3 ∷ []) stepFields bf (fits-more (byte 3) [] stepFields bs (fits-none stepFields))
 
-  next-whole : f ≤ 255 → s ≤ 255 → T (eqb a 0 && eqb o 0) → Whole step k 0 (byte 2 ∷ byte 3 ∷ []) 0 rowFields
+  next-whole : f ≤ 255 → s ≤ 255 → T (eqb a 0 && eqb o 0) → Whole step k 0 (byte 2 ∷ byte 3 ∷ []) 0 stepFields
   unfolding recordOf said place
   next-whole bf bs h =
       let u = zero-2 a o h in
@@ -118,36 +118,36 @@ module _ (k a f s o : ℕ) where
       let eo : o ≡ 0 = u .1 in
       record { same = (cc); fits = targets-fit bf bs; few = omega arith }
 
-  ok-whole : f ≤ 255 → T (eqb a 0 && eqb s 0 && eqb o 0) → Whole step k 0 (byte 2 ∷ []) 0 rowFields
+  ok-whole : f ≤ 255 → T (eqb a 0 && eqb s 0 && eqb o 0) → Whole step k 0 (byte 2 ∷ []) 0 stepFields
   unfolding recordOf said place bound
   ok-whole bf h =
       let u = zero-3 a s o h in
       let ea : a ≡ 0 = u .0 in
       let es : s ≡ 0 = u .1 in
       let eo : o ≡ 0 = u .2 in
-      record { same = (cc); fits = fits-more (byte 2) [] rowFields bf (fits-none rowFields); few = omega arith }
+      record { same = (cc); fits = fits-more (byte 2) [] stepFields bf (fits-none stepFields); few = omega arith }
 
-  ins-whole : a ≤ 255 → f ≤ 255 → T (isAction a && eqb s 0 && eqb o 0) → Whole step k 0 (byte 1 ∷ byte 2 ∷ []) 0 rowFields
+  ins-whole : a ≤ 255 → f ≤ 255 → T (isAction a && eqb s 0 && eqb o 0) → Whole step k 0 (byte 1 ∷ byte 2 ∷ []) 0 stepFields
   unfolding recordOf said place bound
   ins-whole ba bf h =
       let es : s ≡ 0 = eqb→eq s 0 (and-right (isAction a) (eqb s 0) (and-left (isAction a && eqb s 0) (eqb o 0) h)) in
       let eo : o ≡ 0 = eqb→eq o 0 (and-right (isAction a && eqb s 0) (eqb o 0) h) in
-      record { same = (cc); fits = fits-more (byte 1) (byte 2 ∷ []) rowFields ba (fits-more (byte 2) [] rowFields bf (fits-none rowFields)); few = omega arith }
+      record { same = (cc); fits = fits-more (byte 1) (byte 2 ∷ []) stepFields ba (fits-more (byte 2) [] stepFields bf (fits-none stepFields)); few = omega arith }
 
-  acase-whole : f ≤ 255 → s ≤ 255 → o < 2 ^ 64 → T (eqb a 0) → Whole step k 0 (actions 4 ∷ byte 2 ∷ byte 3 ∷ []) 0 rowFields
+  acase-whole : f ≤ 255 → s ≤ 255 → o < 2 ^ 64 → T (eqb a 0) → Whole step k 0 (actions 4 ∷ byte 2 ∷ byte 3 ∷ []) 0 stepFields
   unfolding recordOf said place bound
   acase-whole bf bs bo h =
       let ea : a ≡ 0 = eqb→eq a 0 h in
-      record { same = (cc); fits = fits-more (actions 4) (byte 2 ∷ byte 3 ∷ []) rowFields (omega arith) (targets-fit bf bs); few = omega arith }
+      record { same = (cc); fits = fits-more (actions 4) (byte 2 ∷ byte 3 ∷ []) stepFields (omega arith) (targets-fit bf bs); few = omega arith }
 
-  spend-whole : f ≤ 255 → s ≤ 255 → T (eqb a 0 && leb o 4_294_967_295) → Whole step k 0 (word 4 ∷ byte 2 ∷ byte 3 ∷ []) 0 rowFields
+  spend-whole : f ≤ 255 → s ≤ 255 → T (eqb a 0 && leb o 4_294_967_295) → Whole step k 0 (word 4 ∷ byte 2 ∷ byte 3 ∷ []) 0 stepFields
   unfolding recordOf said place bound
   spend-whole bf bs h =
       let ea : a ≡ 0 = eqb→eq a 0 (and-left (eqb a 0) (leb o 4_294_967_295) h) in
       let bo : o ≤ 4_294_967_295 = leb→le o 4_294_967_295 (and-right (eqb a 0) (leb o 4_294_967_295) h) in
-      record { same = (cc); fits = fits-more (word 4) (byte 2 ∷ byte 3 ∷ []) rowFields bo (targets-fit bf bs); few = omega arith }
+      record { same = (cc); fits = fits-more (word 4) (byte 2 ∷ byte 3 ∷ []) stepFields bo (targets-fit bf bs); few = omega arith }
 
-  end-whole : T (eqb a 0 && eqb f 0 && eqb s 0 && eqb o 0) → Whole step k 0 [] 0 rowFields
+  end-whole : T (eqb a 0 && eqb f 0 && eqb s 0 && eqb o 0) → Whole step k 0 [] 0 stepFields
   unfolding recordOf said
   end-whole h =
       let u = zero-4 a f s o h in
@@ -155,11 +155,11 @@ module _ (k a f s o : ℕ) where
       let ef : f ≡ 0 = u .1 in
       let es : s ≡ 0 = u .2 in
       let eo : o ≡ 0 = u .3 in
-      record { same = (cc); fits = fits-none rowFields; few = omega arith }
+      record { same = (cc); fits = fits-none stepFields; few = omega arith }
 
 pub row-told : (k a f s o : ℕ) → a ≤ 255 → f ≤ 255 → s ≤ 255 → o < 2 ^ 64
-    → T (rowFits (record { kind = k; action = a; first = f; second = s; operand = o })) → Told step k 0 (k ∷ a ∷ f ∷ s ∷ o ∷ [])
-unfolding rowFits noAction noFirst noSecond noOperand ofKind firstOf forms sameSort
+    → T (stepFits (record { kind = k; action = a; first = f; second = s; operand = o })) → Told step k 0 (k ∷ a ∷ f ∷ s ∷ o ∷ [])
+unfolding stepFits noAction noFirst noSecond noOperand ofKind firstOf forms sameSort
 row-told zero a f s o ba bf bs bo h = absurd h
 row-told (suc zero) a f s o ba bf bs bo h = record { form = _; is = refl; whole = next-whole 1 a f s o bf bs h }
 row-told (suc (suc zero)) a f s o ba bf bs bo h = record { form = _; is = refl; whole = ok-whole 2 a f s o bf h }

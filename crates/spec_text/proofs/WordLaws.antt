@@ -1,4 +1,4 @@
--- Laws of lines and words: what letters in a row do, and words that are the same. Assumes nothing.
+-- Laws of lines and words: what letters in a row do, and words that are the same.
 use Prim.Native.Nat.{ℕ, _+_, _≤_, _<_}
 use native.Mathlib.Omega.{arith}
 use mathlib.Core.Path.{_≡_, refl, ap, ap₂, _∙_, subst}

@@ -1,5 +1,5 @@
 -- Texts and records: document 01's small policies printed and read back, texts as a person writes them, and every way in which a line or
--- a record can be wrong. Three lists, one statement each. Assumes nothing.
+-- a record can be wrong. Three lists, one statement each.
 use Prim.Native.Nat.{ℕ, zero, suc, _+_, _^_}
 use Prim.Native.String.{String}
 use mathlib.Core.Path.{_≡_}

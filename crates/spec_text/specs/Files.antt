@@ -1,4 +1,4 @@
--- From file to text and back. Assumes nothing.
+-- From file to text and back.
 use mathlib.Core.Path.{_≡_}
 use Rattle.spec_policy.specs.Bytes.{Bytes}
 use Rattle.spec_policy.specs.Records.{nodeBytes, stepBytes}

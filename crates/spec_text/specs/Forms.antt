@@ -1,4 +1,4 @@
--- The kinds of lines: one table, by which a line is read and a record is printed. Assumes nothing.
+-- The kinds of lines: one table, by which a line is read and a record is printed.
 use Prim.Native.Nat.{ℕ, _-_, _^_}
 use Prim.Native.String.{String}
 use mathlib.Core.Bool.{Bool, true, false, _&&_}
@@ -7,7 +7,7 @@ use mathlib.Core.Option.{Option, none, some}
 use lib.Dec.{eqb}
 use lib.ListN.{getD, set}
 use Rattle.spec_policy.specs.Bytes.{Bytes}
-use Rattle.spec_policy.specs.Records.{Node, nodeAt, nodeSize, Row, rowAt, stepSize}
+use Rattle.spec_policy.specs.Records.{Node, nodeAt, nodeSize, StepRecord, stepRecordAt, stepSize}
 use Rattle.spec_policy.specs.Parts
 use Rattle.spec_text.specs.Words.{ascii, sameBytes}
 
@@ -32,7 +32,7 @@ Fields = List ℕ
 
 unfoldable pub fieldsIn : Sort → Bytes → Fields
 fieldsIn node bs = let x : Node = nodeAt bs 0 in x .kind ∷ x .left ∷ x .right ∷ x .count ∷ x .start ∷ x .set ∷ []
-fieldsIn step bs = let x : Row = rowAt bs 0 in x .kind ∷ x .action ∷ x .first ∷ x .second ∷ x .operand ∷ []
+fieldsIn step bs = let x : StepRecord = stepRecordAt bs 0 in x .kind ∷ x .action ∷ x .first ∷ x .second ∷ x .operand ∷ []
 
 -- The record of these fields; a node's step count is told apart, since no line names it.
 unfoldable pub recordOf : Sort → ℕ → Fields → Bytes

@@ -1,4 +1,4 @@
--- Numbers in decimal, read and printed. Assumes nothing.
+-- Numbers in decimal, read and printed.
 use Prim.Native.Nat.{ℕ, zero, suc, _+_, _-_, _*_, _/_, _%_}
 use mathlib.Core.Bool.{true, false, _&&_}
 use mathlib.Core.List.{[], _∷_, _++_}

@@ -1,4 +1,4 @@
--- The definitions of this crate that computing opens, by one name: a proof that computes with them says `unfolding opened`. Assumes nothing.
+-- The definitions of this crate that computing opens, by one name: a proof that computes with them says `unfolding opened`.
 use Rattle.spec_text.specs.Words.{ascii, sameBytes, linesFrom, lines, mark, ended, wordsFrom, words}
 use Rattle.spec_text.specs.Numerals.{numberFrom, numeral, digits, decimal}
 use Rattle.spec_text.specs.Forms.{sameSort, size, fieldsIn, recordOf, place, bound, forms, firstOf, named, ofKind, bare}

@@ -1,4 +1,4 @@
--- What records are printed as. Assumes nothing.
+-- What records are printed as.
 use Prim.Native.Nat.{ℕ, zero, suc, _*_, _/_}
 use Prim.Native.Char.{code}
 use mathlib.Core.Bool.{Bool, true, false, _&&_}

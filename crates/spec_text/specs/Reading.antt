@@ -1,4 +1,4 @@
--- What a text is read as: the node records and the step records, or the first line that cannot be read. Assumes nothing.
+-- What a text is read as: the node records and the step records, or the first line that cannot be read.
 use Prim.Native.Nat.{ℕ, zero, suc}
 use mathlib.Core.Bool.{true, false}
 use mathlib.Core.List.{List, [], _∷_, _++_, map}

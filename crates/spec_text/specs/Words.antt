@@ -1,4 +1,4 @@
--- A text's lines, and a line's words. Assumes nothing.
+-- A text's lines, and a line's words.
 use Prim.Native.Nat.{ℕ}
 use Prim.Native.Char.{code}
 use Prim.Native.String.{String, [] as none, _∷_ as _then_}

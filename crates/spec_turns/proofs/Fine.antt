@@ -1,5 +1,5 @@
 -- A process whose items all pass a test, whose parallel sides leave each other alone, and whose outcome has a property. What the
--- turn rules build keeps it. Assumes nothing.
+-- turn rules build keeps it.
 use Prim.Native.Nat.{ℕ}
 use mathlib.Core.Path.{_≡_, refl}
 use mathlib.Core.Bool.{Bool, true, false, _&&_}

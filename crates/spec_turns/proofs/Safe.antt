@@ -1,4 +1,4 @@
--- Processes whose items all pass a test, and processes whose parallel sides leave each other alone. Assumes nothing.
+-- Processes whose items all pass a test, and processes whose parallel sides leave each other alone.
 use Prim.Native.Nat.{ℕ}
 use mathlib.Core.Logic.{_⊎_}
 use mathlib.Core.Bool.{Bool, true, false, not}

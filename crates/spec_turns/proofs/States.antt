@@ -1,4 +1,4 @@
--- What follows from a state's being at rest or between the phases, and how two sides settle into a node's state. Assumes nothing.
+-- What follows from a state's being at rest or between the phases, and how two sides settle into a node's state.
 use Prim.Native.Nat.{ℕ, _≤_}
 use mathlib.Core.Path.{_≡_, refl, sym, ap, subst}
 use mathlib.Core.Bool.{Bool, true, false, _&&_, _||_}
@@ -13,9 +13,9 @@ use Rattle.spec_policy.specs.Tree.{Way, Join, and, or, Tree, leaf, trivial, uns
 use Rattle.spec_check.specs.Modes.{idle}
 use Rattle.spec_check.specs.Lawful.{reachedIn}
 use Rattle.spec_turns.specs.Status.{Status, running, ended, endedLeft, endedRight, halted, dropped, isRunning, hasEnded, isHalted, isDecided, joined}
-use Rattle.spec_turns.specs.State.{State, over, status, asked, offset, counter, leftOf, rightOf, leafOver, drop, noded, settled}
+use Rattle.spec_turns.specs.State.{State, pairState, status, asked, offset, counter, leftOf, rightOf, leafOver, drop, pairWith, settled}
 use Rattle.spec_turns.proofs.Rest.{Mid, rests, leaf-owes, trivial-owes}
-use Rattle.spec_turns.specs.Rest.{gone, decidedBy, Rest, leaf-waits, leaf-ended, leaf-halted, trivial-ended, unsatisfiable-halted, pair-runs, pair-decided}
+use Rattle.spec_turns.specs.Rest.{gone, decidedBy, AtRest, leaf-waits, leaf-ended, leaf-halted, trivial-ended, unsatisfiable-halted, pair-runs, pair-decided}
 use Rattle.spec_turns.proofs.Rest.{unsatisfiable-owes, pair-owes, Over}
 use Rattle.spec_turns.proofs.StatusLaws.{is-running}
 
@@ -93,7 +93,7 @@ decided-stops dropped h = refl
 -- ---- what a state's being so says of its parts
 
 -- at rest and not running is decided: no node under a parent that runs is dropped
-pub rest-decided : {t : Tree} {s : State} → Rest t s → isRunning (status s) ≡ false → T (isDecided (status s))
+pub rest-decided : {t : Tree} {s : State} → AtRest t s → isRunning (status s) ≡ false → T (isDecided (status s))
 unfolding status isRunning isDecided hasEnded isHalted
 rest-decided (leaf-waits n k) e = true-not-false refl e
 rest-decided leaf-ended e = tt
@@ -104,7 +104,7 @@ rest-decided (pair-runs p q k) e = true-not-false refl e
 rest-decided (pair-decided {j = j} {s = s} d p q) e = decidedBy-decided j s d
 
 -- no mark, at rest
-pub mid-rest : {t : Tree} {s : State} → Mid t s → asked s ≡ false → Rest t s
+pub mid-rest : {t : Tree} {s : State} → Mid t s → asked s ≡ false → AtRest t s
 unfolding asked
 mid-rest (rests h) e = h
 mid-rest (leaf-owes n k) e = true-not-false refl e
@@ -112,7 +112,7 @@ mid-rest trivial-owes e = true-not-false refl e
 mid-rest unsatisfiable-owes e = true-not-false refl e
 mid-rest (pair-owes p q k) e = true-not-false refl e
 
-pub rest-unasked : {t : Tree} {s : State} → Rest t s → asked s ≡ false
+pub rest-unasked : {t : Tree} {s : State} → AtRest t s → asked s ≡ false
 unfolding asked
 rest-unasked (leaf-waits n k) = refl
 rest-unasked leaf-ended = refl
@@ -123,7 +123,7 @@ rest-unasked (pair-runs p q k) = refl
 rest-unasked (pair-decided d p q) = refl
 
 module _ {i c₀ : ℕ} {r : ActionSet} {code : List Step} where
-  pub leaf-waiting : {s : State} → Rest (leaf i r c₀ code) s → isRunning (status s) ≡ true → T (isNext (getD code (offset s) halt)) × (counter s ≤ c₀)
+  pub leaf-waiting : {s : State} → AtRest (leaf i r c₀ code) s → isRunning (status s) ≡ true → T (isNext (getD code (offset s) halt)) × (counter s ≤ c₀)
   unfolding status isRunning offset counter
   leaf-waiting (leaf-waits n k) e = (n, k)
   leaf-waiting leaf-ended e = true-not-false e refl
@@ -135,7 +135,7 @@ module _ {i c₀ : ℕ} {r : ActionSet} {code : List Step} where
   leaf-owing (leaf-owes n k) e = (n, k)
 
 module _ {w : Way} {j : Join} {i : ℕ} {l r : Tree} where
-  pub pair-running : {s : State} → Rest (node w j i l r) s → isRunning (status s) ≡ true → Rest l (leftOf s) × Rest r (rightOf s)
+  pub pair-running : {s : State} → AtRest (node w j i l r) s → isRunning (status s) ≡ true → AtRest l (leftOf s) × AtRest r (rightOf s)
   unfolding status leftOf rightOf
   pair-running (pair-runs p q k) e = (p, q)
   pair-running (pair-decided {s = s} d p q) e = true-not-false e (decided-stops s (decidedBy-decided j s d))
@@ -155,7 +155,7 @@ drop-gone (unsatisfiable i) = refl
 drop-gone (node w j i l r) = cc (drop-gone l, drop-gone r)
 
 -- whatever can stand there, dropping leaves the same
-pub drop-rest : {t : Tree} {s : State} → Rest t s → drop s ≡ gone t
+pub drop-rest : {t : Tree} {s : State} → AtRest t s → drop s ≡ gone t
 unfolding drop gone leafOver
 drop-rest (leaf-waits n k) = refl
 drop-rest leaf-ended = refl
@@ -176,38 +176,38 @@ drop-mid (pair-owes p q k) = cc (drop-mid p, drop-mid q)
 -- ---- settling
 
 settled-cases : (P : State → Type 0) (j : Join) (m : Bool) (a b : State)
-    → (isRunning (joined j (status a) (status b)) ≡ true → P (over (joined j (status a) (status b)) m a b))
-    → (isRunning (joined j (status a) (status b)) ≡ false → P (over (joined j (status a) (status b)) false (drop a) (drop b))) → P (settled j m a b)
-unfolding settled noded
+    → (isRunning (joined j (status a) (status b)) ≡ true → P (pairState (joined j (status a) (status b)) m a b))
+    → (isRunning (joined j (status a) (status b)) ≡ false → P (pairState (joined j (status a) (status b)) false (drop a) (drop b))) → P (settled j m a b)
+unfolding settled pairWith
 settled-cases P j m a b = go (joined j (status a) (status b)) (isRunning (joined j (status a) (status b)))
   where
-    go : (s : Status) (v : Bool) → (v ≡ true → P (over s m a b)) → (v ≡ false → P (over s false (drop a) (drop b)))
-        → P (elim v [ true ↦ over s m a b | false ↦ over s false (drop a) (drop b) ])
+    go : (s : Status) (v : Bool) → (v ≡ true → P (pairState s m a b)) → (v ≡ false → P (pairState s false (drop a) (drop b)))
+        → P (elim v [ true ↦ pairState s m a b | false ↦ pairState s false (drop a) (drop b) ])
     go s true h k = h refl
     go s false h k = k refl
 
 module _ (w : Way) (j : Join) (i : ℕ) (l r : Tree) where
   -- a node with a status that decides it, its sides dropped
   dropped-rest : (a b : State) → Mid l a → Mid r b → isRunning (joined j (status a) (status b)) ≡ false
-      → Rest (node w j i l r) (over (joined j (status a) (status b)) false (drop a) (drop b))
+      → AtRest (node w j i l r) (pairState (joined j (status a) (status b)) false (drop a) (drop b))
   dropped-rest a b p q e = pair-decided (joined-decides j (status a) (status b) e) (drop-mid p) (drop-mid q)
 
   -- a decided node is at rest, whatever its sides were
-  pub settled-done : (m : Bool) (a b : State) → Mid l a → Mid r b → isRunning (joined j (status a) (status b)) ≡ false → Rest (node w j i l r) (settled j m a b)
-  settled-done m a b p q e = settled-cases (Rest (node w j i l r)) j m a b (λ e′. true-not-false e′ e) (dropped-rest a b p q)
+  pub settled-done : (m : Bool) (a b : State) → Mid l a → Mid r b → isRunning (joined j (status a) (status b)) ≡ false → AtRest (node w j i l r) (settled j m a b)
+  settled-done m a b p q e = settled-cases (AtRest (node w j i l r)) j m a b (λ e′. true-not-false e′ e) (dropped-rest a b p q)
 
-  pub settled-rest : (a b : State) → Rest l a → Rest r b → Rest (node w j i l r) (settled j false a b)
+  pub settled-rest : (a b : State) → AtRest l a → AtRest r b → AtRest (node w j i l r) (settled j false a b)
   settled-rest a b p q =
-      settled-cases (Rest (node w j i l r)) j false a b
+      settled-cases (AtRest (node w j i l r)) j false a b
       (λ e. let k = is-running (joined j (status a) (status b)) e in
-      subst (λ (s : Status). Rest (node w j i l r) (over s false a b)) (sym k) (pair-runs p q k))
+      subst (λ (s : Status). AtRest (node w j i l r) (pairState s false a b)) (sym k) (pair-runs p q k))
       (dropped-rest a b (rests p) (rests q))
 
   pub settled-mid : (a b : State) → Mid l a → Mid r b → Mid (node w j i l r) (settled j true a b)
   settled-mid a b p q =
       settled-cases (Mid (node w j i l r)) j true a b
       (λ e. let k = is-running (joined j (status a) (status b)) e in
-      subst (λ (s : Status). Mid (node w j i l r) (over s true a b)) (sym k) (pair-owes p q k))
+      subst (λ (s : Status). Mid (node w j i l r) (pairState s true a b)) (sym k) (pair-owes p q k))
       (λ e. rests (dropped-rest a b p q e))
 
   -- two sides that are decided decide the node

@@ -1,4 +1,4 @@
--- Statuses as numbers: what a comparison of one tells of the status that it stands for. Assumes nothing.
+-- Statuses as numbers: what a comparison of one tells of the status that it stands for.
 use Prim.Native.Nat.{ℕ, zero, suc, _≤_}
 use native.Mathlib.Omega.{arith}
 use mathlib.Core.Path.{_≡_, refl, sym, ap, _∙_}

@@ -20,12 +20,12 @@ use Rattle.spec_check.specs.Possible.{possibleAt}
 use Rattle.spec_check.specs.Interference.{effects}
 use Rattle.spec_check.specs.Lawful.{reachedIn, Sub, Follows, LawfulLeaf, holds, Disjoint, Spared, Lawful}
 use Rattle.spec_turns.specs.Status.{running, ended, halted, isRunning, hasEnded, isHalted, joined}
-use Rattle.spec_turns.specs.State.{State, at, status, asked, offset, counter, leftOf, rightOf, leafOver}
+use Rattle.spec_turns.specs.State.{State, leafState, status, asked, offset, counter, leftOf, rightOf, leafOver}
 use Rattle.spec_turns.specs.Process.{Item, ran, lets, sups, accepts, suppresses, touches, Out, Process, both, outcome}
 use Rattle.spec_turns.specs.Turn.{before, after, closing, Behaviour, quiet, affords, which, stepping, goes, takeOf, doneOf, leafWork, stillAsked, judged, parallelWork, sequentialWork, isAsked}
 use Rattle.spec_turns.specs.Turn.{ifAsked, phase, fresh, Request, opening, offer, close, verdict, call}
 use Rattle.spec_turns.proofs.Rest.{Mid, rests, leaf-owes, trivial-owes, unsatisfiable-owes, pair-owes, Over}
-use Rattle.spec_turns.specs.Rest.{Rest, leaf-waits, leaf-ended, leaf-halted, trivial-ended, unsatisfiable-halted}
+use Rattle.spec_turns.specs.Rest.{AtRest, leaf-waits, leaf-ended, leaf-halted, trivial-ended, unsatisfiable-halted}
 use Rattle.spec_turns.proofs.Safe.{All, spares, elsewhere, noVerdict, Spare, Safe}
 use Rattle.spec_turns.proofs.Fine.{inside, any, Fine, weaken, fine-any, fine-outs, fine-stop, fine-does, fine-then, fine-if, fine-perhaps, fine-unless, Good, good-weaken, fine-feed}
 use Rattle.spec_turns.proofs.States.{mid-rest, leaf-waiting, leaf-owing, pair-running, pair-owing, settled-done, settled-rest, settled-mid, settled-over, over-over}
@@ -36,7 +36,7 @@ its t = inside (effects t) (holds t)
 
 -- an outcome's state
 abbrev pub RestOut : Tree → Out → Type 0
-RestOut t x = Rest t (x .state)
+RestOut t x = AtRest t (x .state)
 
 abbrev pub MidOut : Tree → Out → Type 0
 MidOut t x = Mid t (x .state)
@@ -48,12 +48,12 @@ OverOut t x = Over t (x .state)
 
 -- what a node of the tree t does where it is asked; r is what it regulates
 pub record Works (f : Item → Bool) (t : Tree) (r : ActionSet) (b : Behaviour) : Type 0 where
-  pub pre : (a : Action) (s : State) → Rest t s → isRunning (status s) ≡ true → T (has r a) → Fine f (MidOut t) (b (before a) s)
+  pub pre : (a : Action) (s : State) → AtRest t s → isRunning (status s) ≡ true → T (has r a) → Fine f (MidOut t) (b (before a) s)
   pub post : (s : State) → Mid t s → asked s ≡ true → Fine f (RestOut t) (b after s)
-  pub shut : (s : State) → Rest t s → isRunning (status s) ≡ true → Fine f (OverOut t) (b closing s)
+  pub shut : (s : State) → AtRest t s → isRunning (status s) ≡ true → Fine f (OverOut t) (b closing s)
 
 -- a node that is not asked stays as it is
-good-asked : (f : Item → Bool) (t : Tree) (r : ActionSet) (b : Behaviour) → Works f t r b → Good f (Rest t) (Mid t) (Over t) (ifAsked r b)
+good-asked : (f : Item → Bool) (t : Tree) (r : ActionSet) (b : Behaviour) → Works f t r b → Good f (AtRest t) (Mid t) (Over t) (ifAsked r b)
 unfolding ifAsked isAsked quiet
 good-asked f t r b w = record {
   pre = λ a s h. fine-if f (MidOut t) (isRunning (status s) && has r a) _ _
@@ -99,14 +99,14 @@ module _ (i c₀ : ℕ) (r : ActionSet) (code : List Step) where
   halted-over = record { rest = leaf-halted; decided = refl }
 
   -- a next stands only where the leaf may wait
-  waits-out : (m : Mode) (o c : ℕ) → m ≡ idle → T (isNext (getD code o halt)) → c ≤ c₀ → LeafOut m (record { state = at running false o c; suppressed = false })
+  waits-out : (m : Mode) (o c : ℕ) → m ≡ idle → T (isNext (getD code o halt)) → c ≤ c₀ → LeafOut m (record { state = leafState running false o c; suppressed = false })
   unfolding LeafOut
-  waits-out m o c e h k = subst (λ (v : Mode). LeafOut v (record { state = at running false o c; suppressed = false })) (sym e) (leaf-waits h k)
+  waits-out m o c e h k = subst (λ (v : Mode). LeafOut v (record { state = leafState running false o c; suppressed = false })) (sym e) (leaf-waits h k)
 
   -- ok and sup stand only where an action is pending
-  owes-out : (m : Mode) (t c : ℕ) (u : Bool) → m ≡ pending → T (reachedIn code idle t) → c ≤ c₀ → LeafOut m (record { state = at running true t c; suppressed = u })
+  owes-out : (m : Mode) (t c : ℕ) (u : Bool) → m ≡ pending → T (reachedIn code idle t) → c ≤ c₀ → LeafOut m (record { state = leafState running true t c; suppressed = u })
   unfolding LeafOut
-  owes-out m t c u e h k = subst (λ (v : Mode). LeafOut v (record { state = at running true t c; suppressed = u })) (sym e) (leaf-owes h k)
+  owes-out m t c u e h k = subst (λ (v : Mode). LeafOut v (record { state = leafState running true t c; suppressed = u })) (sym e) (leaf-owes h k)
 
   -- the pending action is a possible one
   Possible : Mode → Action → ℕ → Type 0
@@ -249,7 +249,7 @@ module _ (j : Join) (i : ℕ) (l r : Tree) (dl : T (not (meets (effects l) (regu
         outs = h .outs;
       }
 
-  parallel-works : (R : ActionSet) (left right : Behaviour) → Good (its l) (Rest l) (Mid l) (Over l) left → Good (its r) (Rest r) (Mid r) (Over r) right
+  parallel-works : (R : ActionSet) (left right : Behaviour) → Good (its l) (AtRest l) (Mid l) (Over l) left → Good (its r) (AtRest r) (Mid r) (Over r) right
       → Works (its pair) pair R (parallelWork j (regulated l) (regulated r) left right)
   unfolding parallelWork stillAsked judged
   parallel-works R left right gl gr = record {
@@ -267,16 +267,16 @@ module _ (j : Join) (i : ℕ) (l r : Tree) (dl : T (not (meets (effects l) (regu
 -- ---- a sequential node
 
 module _ (f : Item → Bool) (j : Join) (i : ℕ) (l r : Tree) (left right : Behaviour)
-    (gl : Good f (Rest l) (Mid l) (Over l) left) (gr : Good f (Rest r) (Mid r) (Over r) right) (R : ActionSet) where
+    (gl : Good f (AtRest l) (Mid l) (Over l) left) (gr : Good f (AtRest r) (Mid r) (Over r) right) (R : ActionSet) where
   abbrev chain : Tree
   chain = node sequential j i l r
 
-  seq-pre : (a : Action) (s : State) → Rest l (leftOf s) → Rest r (rightOf s) → Fine f (MidOut chain) (sequentialWork j R left right (before a) s)
+  seq-pre : (a : Action) (s : State) → AtRest l (leftOf s) → AtRest r (rightOf s) → Fine f (MidOut chain) (sequentialWork j R left right (before a) s)
   unfolding sequentialWork
   seq-pre a s hl hr =
       let g = gl .pre a (leftOf s) hl in
       let x = outcome (left (before a) (leftOf s)) in
-      fine-feed f (Rest r) (Mid r) (Over r) j R right gr (MidOut chain) (leftOf s)
+      fine-feed f (AtRest r) (Mid r) (Over r) j R right gr (MidOut chain) (leftOf s)
       (λ t q e. rests (settled-done sequential j i l r false (leftOf s) t (rests hl) (rests q) e))
       (left (before a) (leftOf s)) (rightOf s) _ (g .all) hr
       (λ t q. fine-unless f (MidOut chain) j true (x .suppressed) (x .state) t _
@@ -294,17 +294,17 @@ module _ (f : Item → Bool) (j : Join) (i : ℕ) (l r : Tree) (left right : Beh
       fine-then f (RestOut r) (RestOut chain) (right after (rightOf s)) _ (gr .post (rightOf s) hr)
       (λ y q. fine-unless f (RestOut chain) j false false (leftOf s) (y .state) _
       (settled-done sequential j i l r false (leftOf s) (y .state) hl (rests q))
-      (fine-feed f (Rest r) (Mid r) (Over r) j R right gr (RestOut chain) (leftOf s)
+      (fine-feed f (AtRest r) (Mid r) (Over r) j R right gr (RestOut chain) (leftOf s)
       (λ t q′ e. settled-done sequential j i l r false (leftOf s) t hl (rests q′) e)
       (left after (leftOf s)) (y .state) _ (g .all) q
       (λ t q′. fine-stop f (RestOut chain) _ (settled-rest sequential j i l r (outcome (left after (leftOf s)) .state) t (g .outs) q′))))
 
-  seq-shut : (s : State) → Rest l (leftOf s) → Rest r (rightOf s) → Fine f (OverOut chain) (sequentialWork j R left right closing s)
+  seq-shut : (s : State) → AtRest l (leftOf s) → AtRest r (rightOf s) → Fine f (OverOut chain) (sequentialWork j R left right closing s)
   unfolding sequentialWork quiet
   seq-shut s hl hr =
       let g = gl .shut (leftOf s) hl in
       let x = outcome (left closing (leftOf s)) in
-      fine-feed f (Rest r) (Mid r) (Over r) j R right gr (OverOut chain) (leftOf s)
+      fine-feed f (AtRest r) (Mid r) (Over r) j R right gr (OverOut chain) (leftOf s)
       (λ t q e. settled-over sequential j i l r false (leftOf s) t (rests hl) (rests q) e)
       (left closing (leftOf s)) (rightOf s) _ (g .all) hr
       (λ t q. fine-unless f (OverOut chain) j false false (x .state) t _
@@ -332,7 +332,7 @@ at-once f t r s h = record {
 
 -- Every node of a lawful tree: from a state at rest the phase before the verdict leads between the phases, the phase after it leads
 -- back, and closing leads to a decided state; meanwhile all items are the tree's own and parallel sides leave each other alone.
-pub good : (t : Tree) → Lawful t → Good (inside (effects t) (holds t)) (Rest t) (Mid t) (Over t) (phase t)
+pub good : (t : Tree) → Lawful t → Good (inside (effects t) (holds t)) (AtRest t) (Mid t) (Over t) (phase t)
 unfolding Lawful Spared phase f leafOver status isRunning
 good (leaf i r c code) law = good-asked (its (leaf i r c code)) (leaf i r c code) r (leafWork i code) (leaf-works i c r code law)
 good (trivial i) law =
@@ -347,8 +347,8 @@ good (node sequential j i l r) law =
     let g : Item → Bool = its (node sequential j i l r) in
     good-asked g (node sequential j i l r) (regulated (node sequential j i l r)) _
     (sequential-works g j i l r (phase l) (phase r)
-    (good-weaken (its l) g (Rest l) (Mid l) (Over l) (phase l) (from-left sequential j i l r) (good l (law .0)))
-    (good-weaken (its r) g (Rest r) (Mid r) (Over r) (phase r) (from-right sequential j i l r) (good r (law .1)))
+    (good-weaken (its l) g (AtRest l) (Mid l) (Over l) (phase l) (from-left sequential j i l r) (good l (law .0)))
+    (good-weaken (its r) g (AtRest r) (Mid r) (Over r) (phase r) (from-right sequential j i l r) (good r (law .1)))
     (regulated r) (regulated (node sequential j i l r)))
 
 -- ---- the calls
@@ -374,12 +374,12 @@ fresh-mid (unsatisfiable i) law = unsatisfiable-owes
 fresh-mid (node w j i l r) law = pair-owes (fresh-mid l (law .0)) (fresh-mid r (law .1)) (runs-together j (fresh l) (fresh r) (fresh-runs l) (fresh-runs r))
 
 -- Opening asks nothing of the state that was there.
-pub opening-fine : (t : Tree) → Lawful t → (s : State) → Fine any (λ x. Rest t (x .state)) (call t opening s)
+pub opening-fine : (t : Tree) → Lawful t → (s : State) → Fine any (λ x. AtRest t (x .state)) (call t opening s)
 unfolding call
 opening-fine t law s = fine-any (its t) (RestOut t) _ (good t law .post (fresh t) (fresh-mid t law))
 
 -- Every call on a lawful tree in a state at rest is safe, and leaves a state at rest.
-pub call-fine : (t : Tree) → Lawful t → (q : Request) (s : State) → Rest t s → Fine any (λ x. Rest t (x .state)) (call t q s)
+pub call-fine : (t : Tree) → Lawful t → (q : Request) (s : State) → AtRest t s → Fine any (λ x. AtRest t (x .state)) (call t q s)
 unfolding call any quiet
 call-fine t law opening s h = opening-fine t law s
 call-fine t law (offer a) s h =
@@ -394,6 +394,6 @@ call-fine t law close s h =
     (fine-outs (its t) (OverOut t) (RestOut t) _ (λ x k. k .rest) (good t law .shut s h))
 
 -- Closing decides the root.
-pub close-over : (t : Tree) → Lawful t → (s : State) → Rest t s → Over t (outcome (call t close s) .state)
+pub close-over : (t : Tree) → Lawful t → (s : State) → AtRest t s → Over t (outcome (call t close s) .state)
 unfolding call
 close-over t law s h = good t law .shut s h .outs

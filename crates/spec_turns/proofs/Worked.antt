@@ -1,5 +1,5 @@
 -- The entry points' definitions give all that is told of P1 to P11, of guardrun's example and at the points where readers differ, by
--- computation. Assumes nothing.
+-- computation.
 use mathlib.Core.Path.{refl}
 use Rattle.actions.specs.Opened.{opened as sets}
 use Rattle.spec_policy.specs.Opened.{opened as files}

@@ -1,5 +1,5 @@
 -- The four entry points: for each, one definition from all that it is given to all that it gives. The check's is `check` of crate
--- rules; here are opening, an offered action and closing. Assumes nothing.
+-- rules; here are opening, an offered action and closing.
 use Prim.Native.Nat.{ℕ}
 use mathlib.Core.Bool.{Bool, true, false, _||_, not}
 use mathlib.Core.List.{List, [], _∷_}

@@ -1,4 +1,4 @@
--- Events, and what is counted of a run. Assumes nothing.
+-- Events, and what is counted of a run.
 use Prim.Native.Nat.{ℕ, suc}
 use mathlib.Core.List.{List, [], _∷_, _++_}
 use Rattle.actions.specs.Sets.{Action}

@@ -1,5 +1,5 @@
 -- What a phase does, as a process: single steps of leaves one after another, and, at a parallel node, two sides whose order is free.
--- Demand 2 takes the left side first (`outcome`, `trace`); demand 3 takes them in any order. Assumes nothing.
+-- Demand 2 takes the left side first (`outcome`, `trace`); demand 3 takes them in any order.
 use Prim.Native.Nat.{ℕ}
 use mathlib.Core.Bool.{Bool, false}
 use mathlib.Core.List.{List, [], _∷_, _++_}

@@ -1,5 +1,5 @@
 -- The points of document 01 at which readers differ, and its believable mistakes, on small policies: one list, one statement; beside
--- it a count of steps, which no answer shows, and the refusals of the calls. Assumes nothing.
+-- it a count of steps, which no answer shows, and the refusals of the calls.
 use Prim.Native.Nat.{ℕ}
 use mathlib.Core.Path.{_≡_}
 use mathlib.Core.List.{List, [], _∷_, _++_, map}
@@ -147,11 +147,11 @@ unfoldable pub unfit : Bytes → Bytes → Asking
 unfit policy state = record { policy = policy; request = close; state = state; room = replicate 512 7; number = 12 }
 
 -- the state of a pair: statuses of its node and of its two sides, and zeros
-unfoldable pub pairState : ℕ → ℕ → ℕ → Bytes
-pairState n l r = n ∷ replicate 7 0 ++ (l ∷ replicate 7 0 ++ (r ∷ replicate 231 0))
+unfoldable pub threeRecords : ℕ → ℕ → ℕ → Bytes
+threeRecords n l r = n ∷ replicate 7 0 ++ (l ∷ replicate 7 0 ++ (r ∷ replicate 231 0))
 
 unfoldable pub refusedCalls : List Asking
-unfolding built unfit pairState
+unfolding built unfit threeRecords
 refusedCalls =
     record { policy = []; request = opening; state = []; room = []; number = 1 }
     -- 11 before 12, 13 and 14
@@ -167,15 +167,15 @@ refusedCalls =
     ∷ unfit (alone bottom) (5 ∷ 0 ∷ 0 ∷ 0 ∷ 0 ∷ 0 ∷ 0 ∷ 0 ∷ 6 ∷ replicate 239 0)
     ∷ unfit (alone top) (6 ∷ replicate 247 0)
     -- a running "and" with a halted side, with both ended; a running "or" with an ended side, with both halted
-    ∷ unfit (pair 4 bottom top) (pairState 1 5 2)
-    ∷ unfit (pair 4 top top) (pairState 1 2 2)
-    ∷ unfit (pair 6 bottom top) (pairState 1 5 2)
-    ∷ unfit (pair 6 bottom bottom) (pairState 1 5 5)
+    ∷ unfit (pair 4 bottom top) (threeRecords 1 5 2)
+    ∷ unfit (pair 4 top top) (threeRecords 1 2 2)
+    ∷ unfit (pair 6 bottom top) (threeRecords 1 5 2)
+    ∷ unfit (pair 6 bottom bottom) (threeRecords 1 5 5)
     -- an "and" is not ended by one side, an "or" not by both; a side is dropped under a decided node, and under no other
-    ∷ unfit (pair 4 top top) (pairState 3 6 6)
-    ∷ unfit (pair 6 top top) (pairState 2 6 6)
-    ∷ unfit (pair 4 top top) (pairState 2 2 2)
-    ∷ unfit (pair 4 top W) (pairState 1 2 6)
+    ∷ unfit (pair 4 top top) (threeRecords 3 6 6)
+    ∷ unfit (pair 6 top top) (threeRecords 2 6 6)
+    ∷ unfit (pair 4 top top) (threeRecords 2 2 2)
+    ∷ unfit (pair 4 top W) (threeRecords 1 2 6)
     -- 13 before 14
     ∷ record { policy = alone bottom; request = offer 64; state = 5 ∷ replicate 247 0; room = replicate 512 7; number = 13 }
     ∷ record { policy = alone bottom; request = offer 63; state = 5 ∷ replicate 247 0; room = replicate 512 7; number = 14 }

@@ -1,5 +1,5 @@
 -- A state at rest, as a policy can be in between calls: what "It fits when:" says of 248 bytes, said of the state that they hold. Bytes that fit are loaded
--- as such a state, and every answered call ends in one (laws_turns). Assumes nothing.
+-- as such a state, and every answered call ends in one (laws_turns).
 use Prim.Native.Nat.{ℕ, _≤_}
 use mathlib.Core.Path.{_≡_}
 use mathlib.Core.Bool.{Bool, true, false}
@@ -10,14 +10,14 @@ use Rattle.actions.specs.Sets.{ActionSet}
 use Rattle.spec_policy.specs.Steps.{Step, halt, isNext}
 use Rattle.spec_policy.specs.Tree.{Way, Join, and, or, Tree, leaf, trivial, unsatisfiable, node}
 use Rattle.spec_turns.specs.Status.{Status, running, ended, endedLeft, endedRight, halted, dropped, joined}
-use Rattle.spec_turns.specs.State.{State, at, over, status}
+use Rattle.spec_turns.specs.State.{State, leafState, pairState, status}
 
 -- "When a node is decided, all nodes beneath it become dropped. A leaf that isn't running has offset and counter zero.": all of the tree dropped
 unfoldable pub gone : Tree → State
-gone (leaf i r c code) = at dropped false 0 0
-gone (trivial i) = at dropped false 0 0
-gone (unsatisfiable i) = at dropped false 0 0
-gone (node w j i l r) = over dropped false (gone l) (gone r)
+gone (leaf i r c code) = leafState dropped false 0 0
+gone (trivial i) = leafState dropped false 0 0
+gone (unsatisfiable i) = leafState dropped false 0 0
+gone (node w j i l r) = pairState dropped false (gone l) (gone r)
 
 -- the statuses that a decided node with two sides can have: "and" ended or halted, "or" ended left, ended right or halted
 unfoldable pub decidedBy : Join → Status → Bool
@@ -36,13 +36,13 @@ decidedBy or dropped = false
 
 -- At rest, under a parent that runs: "a running leaf has the offset of a next and a counter at most its start", the status of a running node is the one
 -- that its sides' give, and beneath a decided one all is dropped. "all other offsets and counters are zero." No node is marked as owing a phase.
-pub data Rest : Tree → State → Type 0 where
-  leaf-waits : {i c₀ o c : ℕ} {r : ActionSet} {code : List Step} → T (isNext (getD code o halt)) → c ≤ c₀ → Rest (leaf i r c₀ code) (at running false o c)
-  leaf-ended : {i c₀ : ℕ} {r : ActionSet} {code : List Step} → Rest (leaf i r c₀ code) (at ended false 0 0)
-  leaf-halted : {i c₀ : ℕ} {r : ActionSet} {code : List Step} → Rest (leaf i r c₀ code) (at halted false 0 0)
-  trivial-ended : {i : ℕ} → Rest (trivial i) (at ended false 0 0)
-  unsatisfiable-halted : {i : ℕ} → Rest (unsatisfiable i) (at halted false 0 0)
+pub data AtRest : Tree → State → Type 0 where
+  leaf-waits : {i c₀ o c : ℕ} {r : ActionSet} {code : List Step} → T (isNext (getD code o halt)) → c ≤ c₀ → AtRest (leaf i r c₀ code) (leafState running false o c)
+  leaf-ended : {i c₀ : ℕ} {r : ActionSet} {code : List Step} → AtRest (leaf i r c₀ code) (leafState ended false 0 0)
+  leaf-halted : {i c₀ : ℕ} {r : ActionSet} {code : List Step} → AtRest (leaf i r c₀ code) (leafState halted false 0 0)
+  trivial-ended : {i : ℕ} → AtRest (trivial i) (leafState ended false 0 0)
+  unsatisfiable-halted : {i : ℕ} → AtRest (unsatisfiable i) (leafState halted false 0 0)
   pair-runs : {w : Way} {j : Join} {i : ℕ} {l r : Tree} {a b : State}
-      → Rest l a → Rest r b → joined j (status a) (status b) ≡ running → Rest (node w j i l r) (over running false a b)
+      → AtRest l a → AtRest r b → joined j (status a) (status b) ≡ running → AtRest (node w j i l r) (pairState running false a b)
   pair-decided : {w : Way} {j : Join} {i : ℕ} {l r : Tree} {a b : State} {s : Status}
-      → T (decidedBy j s) → a ≡ gone l → b ≡ gone r → Rest (node w j i l r) (over s false a b)
+      → T (decidedBy j s) → a ≡ gone l → b ≡ gone r → AtRest (node w j i l r) (pairState s false a b)

@@ -1,4 +1,4 @@
--- The saved state: its bytes, and rule 12. Assumes nothing.
+-- The saved state: its bytes, and rule 12.
 use Prim.Native.Nat.{ℕ, zero, suc, _+_, _*_}
 use mathlib.Core.Bool.{Bool, true, false, _&&_, _||_, not, Bool·beq}
 use mathlib.Core.List.{List, [], _∷_}
@@ -10,7 +10,7 @@ use Rattle.spec_policy.specs.Records.{mostNodes, nodeCount}
 use Rattle.spec_policy.specs.Steps.{Step, halt, isNext}
 use Rattle.spec_policy.specs.Tree.{Join, and, or, Tree, leaf, trivial, unsatisfiable, node, numberOf, tree}
 use Rattle.spec_turns.specs.Status.{Status, statusNumber, statusOf, isRunning, hasEnded, isHalted}
-use Rattle.spec_turns.specs.State.{State, at, over, status, offset, counter, leftOf, rightOf}
+use Rattle.spec_turns.specs.State.{State, leafState, pairState, status, offset, counter, leftOf, rightOf}
 
 -- Every size of the state, named once.
 abbrev pub cellSize : ℕ
@@ -44,10 +44,10 @@ cell s = statusNumber (status s) ∷ offset s ∷ 0 ∷ 0 ∷ spell 4 (counter s
 
 -- the state that bytes hold
 unfoldable pub load : Tree → Bytes → State
-load (leaf i r c code) bs = at (statusOf (statusAt bs i)) false (offsetAt bs i) (counterAt bs i)
-load (trivial i) bs = at (statusOf (statusAt bs i)) false (offsetAt bs i) (counterAt bs i)
-load (unsatisfiable i) bs = at (statusOf (statusAt bs i)) false (offsetAt bs i) (counterAt bs i)
-load (node w j i l r) bs = over (statusOf (statusAt bs i)) false (load l bs) (load r bs)
+load (leaf i r c code) bs = leafState (statusOf (statusAt bs i)) false (offsetAt bs i) (counterAt bs i)
+load (trivial i) bs = leafState (statusOf (statusAt bs i)) false (offsetAt bs i) (counterAt bs i)
+load (unsatisfiable i) bs = leafState (statusOf (statusAt bs i)) false (offsetAt bs i) (counterAt bs i)
+load (node w j i l r) bs = pairState (statusOf (statusAt bs i)) false (load l bs) (load r bs)
 
 -- the bytes with the cells of a node and of all beneath it laid over them
 unfoldable pub store : Tree → State → Bytes → Bytes

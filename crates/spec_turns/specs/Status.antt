@@ -1,4 +1,4 @@
--- Statuses, and how a node's follows from its sides'. Assumes nothing.
+-- Statuses, and how a node's follows from its sides'.
 use Prim.Native.Nat.{ℕ}
 use mathlib.Core.Bool.{Bool, true, false, _&&_, _||_}
 use mathlib.Core.List.{[], _∷_}

@@ -1,4 +1,4 @@
--- The turn rules. Assumes nothing.
+-- The turn rules.
 use Prim.Native.Nat.{ℕ, zero, suc, _-_}
 use mathlib.Core.Bool.{Bool, true, false, _&&_, _||_, not}
 use mathlib.Core.List.{List}
@@ -8,7 +8,7 @@ use Rattle.actions.specs.Sets.{Action, ActionSet, EMPTY, has}
 use Rattle.spec_policy.specs.Steps.{Step, next, ok, sup, ins, acase, spend, end, halt}
 use Rattle.spec_policy.specs.Tree.{parallel, sequential, Join, and, or, Tree, leaf, trivial, unsatisfiable, node, regulated}
 use Rattle.spec_turns.specs.Status.{running, ended, halted, isRunning, isHalted, joined}
-use Rattle.spec_turns.specs.State.{State, at, over, status, asked, offset, counter, leftOf, rightOf, leafOver, settled}
+use Rattle.spec_turns.specs.State.{State, leafState, pairState, status, asked, offset, counter, leftOf, rightOf, leafOver, settled}
 use Rattle.spec_turns.specs.Process.{Item, ran, lets, sups, accepts, suppresses, Out, Process, stop, does, both, then}
 
 -- "A turn on action a has two phases: before the verdict, and after it." "Closing is one phase".
@@ -39,9 +39,9 @@ which false y z = z
 -- "A next runs when it is left", so here the leaf only stops at it.
 unfoldable pub stepping : ℕ → Action → (ℕ → ℕ → Process) → ℕ → ℕ → Step → Process
 unfolding quiet which
-stepping i a go o c (next t d) = quiet (at running false o c)
-stepping i a go o c (ok t) = does (ran i o) (quiet (at running true t c))
-stepping i a go o c (sup t) = does (ran i o) (does (sups a) (stop (record { state = at running true t c; suppressed = true })))
+stepping i a go o c (next t d) = quiet (leafState running false o c)
+stepping i a go o c (ok t) = does (ran i o) (quiet (leafState running true t c))
+stepping i a go o c (sup t) = does (ran i o) (does (sups a) (stop (record { state = leafState running true t c; suppressed = true })))
 stepping i a go o c (ins b t) = does (ran i o) (does (lets b) (go t c))
 stepping i a go o c (acase s y z) = does (ran i o) (go (which (has s a) y z) c)
 stepping i a go o c (spend n y z) = does (ran i o) (go (which (affords c n) y z) (which (affords c n) (c - n) c))
@@ -189,10 +189,10 @@ phase (node sequential j i l r) = ifAsked (regulated (node sequential j i l r)) 
 
 -- "Opening is an "after" phase from offset 0 and the counter starts; .. a side not yet opened counts as running."
 unfoldable pub fresh : Tree → State
-fresh (leaf i r c code) = at running true 0 c
-fresh (trivial i) = at running true 0 0
-fresh (unsatisfiable i) = at running true 0 0
-fresh (node w j i l r) = over running true (fresh l) (fresh r)
+fresh (leaf i r c code) = leafState running true 0 c
+fresh (trivial i) = leafState running true 0 0
+fresh (unsatisfiable i) = leafState running true 0 0
+fresh (node w j i l r) = pairState running true (fresh l) (fresh r)
 
 pub data Request : Type 0 where
   opening : Request

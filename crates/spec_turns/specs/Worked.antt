@@ -1,4 +1,4 @@
--- Document 01's P1 to P11 and its run of guardrun, said of the entry points: one list, one statement. Assumes nothing.
+-- Document 01's P1 to P11 and its run of guardrun, said of the entry points: one list, one statement.
 use Prim.Native.Nat.{ℕ, zero, suc, _*_}
 use mathlib.Core.Path.{_≡_}
 use mathlib.Core.List.{List, [], _∷_, _++_, map}

@@ -1,4 +1,4 @@
--- "every file that the check passes is written again byte for byte from its own records". Assumes nothing.
+-- "every file that the check passes is written again byte for byte from its own records".
 use Prim.Native.Nat.{ℕ, _+_, _*_, _≤_}
 use native.Mathlib.Omega.{arith}
 use mathlib.Core.Path.{_≡_, sym, ap, _∙_}
@@ -11,7 +11,7 @@ use borrow.Author.Tests.{le-ltb}
 use Rattle.actions.specs.Sets.{ActionSet}
 use Rattle.actions.proofs.Tests.{not-not, or-false-right}
 use Rattle.spec_policy.specs.Bytes.{Bytes, number, spell, Small}
-use Rattle.spec_policy.specs.Records.{nodeSize, stepSize, lengthField, versionField, nodeCount, stepCount, nodePlace, rowPlace, nodeBytes, stepBytes}
+use Rattle.spec_policy.specs.Records.{nodeSize, stepSize, lengthField, versionField, nodeCount, stepCount, nodePlace, stepPlace, nodeBytes, stepBytes}
 use Rattle.spec_policy.specs.Parts.{file}
 use Rattle.spec_policy.proofs.NumberLaws.{byte-first, number-first}
 use Rattle.spec_check.specs.Layout.{broken1, broken2, CountsFit}
@@ -44,7 +44,7 @@ module _ (made : Bytes) (small : Small made) where
     steps-held = holds-is stepSize (stepCount made) (stepBytes made) (omega arith) (step-bytes-length made c)
 
     joined : nodeBytes made ++ stepBytes made ≡ drop 6 made
-    unfolding nodeBytes stepBytes rowPlace nodePlace
+    unfolding nodeBytes stepBytes stepPlace nodePlace
     joined =
         let n : ℕ = nodeSize * nodeCount made in
         let m : ℕ = stepSize * stepCount made in
@@ -52,7 +52,7 @@ module _ (made : Bytes) (small : Small made) where
         ap (λ (zs : Bytes). take n (drop 6 made) ++ zs) (s ∙ sym (drop-drop n 6 made)) ∙ take-append-drop n (drop 6 made)
 
     pub written-again : written (nodeBytes made) (stepBytes made) ≡ made
-    unfolding written file lengthField versionField nodeCount stepCount rowPlace nodePlace
+    unfolding written file lengthField versionField nodeCount stepCount stepPlace nodePlace
     written-again =
         let l : 6 + nodeSize * holds nodeSize (nodeBytes made) + stepSize * holds stepSize (stepBytes made) ≡ number made 0 2 =
         omega (arith, nodes-held, steps-held, sized, c .long) in

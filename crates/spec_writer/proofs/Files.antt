@@ -1,5 +1,5 @@
 -- A written file: its length, its front, and that it keeps rules 1 and 2, and rule 3 just where its buffers are fit to be lent.
--- Assumes nothing.
+--
 use Prim.Native.Nat.{ℕ, _+_, _*_, _/_, _%_, _≤_, _<_}
 use native.Mathlib.Nat.{div-add-mod, mul-div-right, mul-mod-right}
 use native.Mathlib.Omega.{arith}
@@ -11,7 +11,7 @@ use lib.Seq.{take-at}
 use borrow.Author.Tests.{eq-eqb, le-leb, le-ltb}
 use Rattle.actions.proofs.Tests.{yes-of, of-yes, and-intro, and-left, and-right, true-not-false}
 use Rattle.spec_policy.specs.Bytes.{Bytes, spelt, number, spell, put}
-use Rattle.spec_policy.specs.Records.{nodeSize, stepSize, mostNodes, mostSteps, lengthField, versionField, nodeCount, stepCount, nodePlace, rowPlace}
+use Rattle.spec_policy.specs.Records.{nodeSize, stepSize, mostNodes, mostSteps, lengthField, versionField, nodeCount, stepCount, nodePlace, stepPlace}
 use Rattle.spec_policy.specs.Parts.{file}
 use Rattle.spec_policy.proofs.ByteLaws.{spelt-spell}
 use Rattle.spec_check.specs.Layout.{broken1, broken2, broken3, CountsFit}
@@ -76,16 +76,16 @@ module _ (nodes steps : Bytes) where
     kept2 = rw (eq-eqb (versionField (written nodes steps)) 1 version)
 
     pub kept3 : broken3 (written nodes steps) ≡ false
-    unfolding broken3 rowPlace nodePlace
+    unfolding broken3 stepPlace nodePlace
     kept3 =
-        let e : length (written nodes steps) ≡ rowPlace (written nodes steps) (stepCount (written nodes steps)) = omega (arith, written-length, node-count, step-count) in
-        rw (eq-eqb (length (written nodes steps)) (rowPlace (written nodes steps) (stepCount (written nodes steps))) e, node-count, step-count-lent, le-leb 1 (holds nodeSize nodes) (l .some-node), le-leb (holds nodeSize nodes) mostNodes (l .few-nodes), le-leb (holds stepSize steps) mostSteps (l .few-steps))
+        let e : length (written nodes steps) ≡ stepPlace (written nodes steps) (stepCount (written nodes steps)) = omega (arith, written-length, node-count, step-count) in
+        rw (eq-eqb (length (written nodes steps)) (stepPlace (written nodes steps) (stepCount (written nodes steps))) e, node-count, step-count-lent, le-leb 1 (holds nodeSize nodes) (l .some-node), le-leb (holds nodeSize nodes) mostNodes (l .few-nodes), le-leb (holds stepSize steps) mostSteps (l .few-steps))
 
   -- ---- and the others
 
   -- of whole records, the counts alone can break rule 3
   pub kept-lent : T (whole nodeSize nodes) → T (whole stepSize steps) → broken3 (written nodes steps) ≡ false → Lent nodes steps
-  unfolding rowPlace nodePlace
+  unfolding stepPlace nodePlace
   kept-lent a b three =
       let f : CountsFit (written nodes steps) = counts-fit (written nodes steps) three in
       let n = node-count in

@@ -1,4 +1,4 @@
--- "Whatever it writes is read back by the check as the same records", and why the writer refuses. Assumes nothing.
+-- "Whatever it writes is read back by the check as the same records", and why the writer refuses.
 use Prim.Native.Nat.{ℕ, zero, suc, _+_, _*_, _≤_, _<_}
 use native.Mathlib.Omega.{arith}
 use mathlib.Core.Path.{_≡_, refl, sym, ap, ap₂, _∙_, subst}
@@ -11,11 +11,11 @@ use borrow.Author.Tests.{ltb-true, ltb-false}
 use Rattle.actions.proofs.Tests.{and-left, and-right, true-not-false}
 use Rattle.spec_policy.specs.Bytes.{Bytes, spell, put}
 use Rattle.spec_policy.specs.Lists.{listed, every}
-use Rattle.spec_policy.specs.Records.{nodeSize, stepSize, nodeCount, stepCount, nodeAt, rowAt, nodePlace, rowPlace, nodes, rows, nodeBytes, stepBytes}
+use Rattle.spec_policy.specs.Records.{nodeSize, stepSize, nodeCount, stepCount, nodeAt, stepRecordAt, nodePlace, stepPlace, nodes, stepRecords, nodeBytes, stepBytes}
 use Rattle.spec_policy.specs.Tree.{regulated, tree}
 use Rattle.spec_policy.specs.Parts.{file}
 use Rattle.spec_policy.proofs.ByteLaws.{drop-after}
-use Rattle.spec_policy.proofs.PartLaws.{node-part, row-part}
+use Rattle.spec_policy.proofs.PartLaws.{node-part, step-part}
 use Rattle.spec_check.specs.Interference.{effects}
 use Rattle.spec_check.specs.Check.{Rule, rules, Answer, passes, refused, check}
 use Rattle.spec_check.proofs.Rows.{counts-fit, node-bytes-length, step-bytes-length}
@@ -24,7 +24,7 @@ use Rattle.spec_check.proofs.Passed.{passed, passes-all, refused-lowest}
 use Rattle.spec_check.specs.Passed.{Lowest, here, after}
 use Rattle.spec_writer.specs.Writing as writing
 use Rattle.spec_writer.specs.Writing.{holds, written, wrote, refuses, Result, refusal, laid, writes}
-use Rattle.spec_writer.specs.Lent.{nodesLent, rowsLent, lendable, Lent}
+use Rattle.spec_writer.specs.Lent.{nodesLent, stepRecordsLent, lendable, Lent}
 use Rattle.spec_writer.specs.Promises.{ReadBack, Why, unlent, broken, short}
 use Rattle.spec_writer.proofs.Files as files
 use Rattle.spec_writer.proofs.Files.{holds-is, node-count, step-count-lent, kept1, kept2, kept3, lendable-lent, by-check, taken-again}
@@ -38,18 +38,18 @@ listed-same f g i (suc n) h = ap₂ _∷_ (h i (omega arith)) (listed-same f g (
 
 module _ (made : Bytes) (f : CountsFit made) where
   pub nodes-spelt : nodes made ≡ nodesLent (nodeBytes made)
-  unfolding nodes nodesLent nodeBytes rowPlace nodePlace
+  unfolding nodes nodesLent nodeBytes stepPlace nodePlace
   nodes-spelt =
       listed-same (λ i. nodeAt made (6 + nodeSize * i)) (λ i. nodeAt (nodeBytes made) (nodeSize * i)) 0 (nodeCount made)
       (λ j h. sym (node-part made 6 (nodeSize * nodeCount made) (omega (arith, f .long)) (nodeSize * j) (omega arith)))
       ∙ ap (λ (k : ℕ). listed (λ i. nodeAt (nodeBytes made) (nodeSize * i)) 0 k) (sym (holds-is nodeSize (nodeCount made) (nodeBytes made) (omega arith) (node-bytes-length made f)))
 
-  pub rows-spelt : rows made ≡ rowsLent (stepBytes made)
-  unfolding rows rowsLent stepBytes rowPlace nodePlace
-  rows-spelt =
-      listed-same (λ i. rowAt made (6 + nodeSize * nodeCount made + stepSize * i)) (λ i. rowAt (stepBytes made) (stepSize * i)) 0 (stepCount made)
-      (λ j h. sym (row-part made (6 + nodeSize * nodeCount made) (stepSize * stepCount made) (omega (arith, f .long)) (stepSize * j) (omega arith)))
-      ∙ ap (λ (k : ℕ). listed (λ i. rowAt (stepBytes made) (stepSize * i)) 0 k) (sym (holds-is stepSize (stepCount made) (stepBytes made) (omega arith) (step-bytes-length made f)))
+  pub records-spelt : stepRecords made ≡ stepRecordsLent (stepBytes made)
+  unfolding stepRecords stepRecordsLent stepBytes stepPlace nodePlace
+  records-spelt =
+      listed-same (λ i. stepRecordAt made (6 + nodeSize * nodeCount made + stepSize * i)) (λ i. stepRecordAt (stepBytes made) (stepSize * i)) 0 (stepCount made)
+      (λ j h. sym (step-part made (6 + nodeSize * nodeCount made) (stepSize * stepCount made) (omega (arith, f .long)) (stepSize * j) (omega arith)))
+      ∙ ap (λ (k : ℕ). listed (λ i. stepRecordAt (stepBytes made) (stepSize * i)) 0 k) (sym (holds-is stepSize (stepCount made) (stepBytes made) (omega arith) (step-bytes-length made f)))
 
 -- ---- a written file's are those lent
 
@@ -116,7 +116,7 @@ module _ (lentNodes lentSteps out : Bytes) where
         after = drop-after out 0 f n (omega arith) (omega arith);
         passed = subst (λ (g : Bytes). check g ≡ passes (regulated (tree g)) (effects (tree g))) (sym t) (passes-all f (passed f _ _ h));
         same-nodes = ap nodes t ∙ nodes-spelt f c ∙ ap nodesLent (nodes-back lentNodes lentSteps l);
-        same-steps = ap rows t ∙ rows-spelt f c ∙ ap rowsLent (steps-back lentNodes lentSteps l);
+        same-steps = ap stepRecords t ∙ records-spelt f c ∙ ap stepRecordsLent (steps-back lentNodes lentSteps l);
         node-bytes = ap nodeBytes t ∙ nodes-back lentNodes lentSteps l;
         step-bytes = ap stepBytes t ∙ steps-back lentNodes lentSteps l;
       }

@@ -1,4 +1,4 @@
--- The records in two lent buffers and in a file, and buffers of which rule 3 is kept. Assumes nothing.
+-- The records in two lent buffers and in a file, and buffers of which rule 3 is kept.
 use Prim.Native.Nat.{_*_, _≤_}
 use mathlib.Core.Path.{_≡_}
 use mathlib.Core.Bool.{Bool, _&&_}
@@ -7,15 +7,15 @@ use lib.Dec.{leb}
 use lib.ListN.{length}
 use Rattle.spec_policy.specs.Bytes.{Bytes}
 use Rattle.spec_policy.specs.Lists.{listed}
-use Rattle.spec_policy.specs.Records.{nodeSize, stepSize, mostNodes, mostSteps, Node, Row, nodeAt, rowAt}
+use Rattle.spec_policy.specs.Records.{nodeSize, stepSize, mostNodes, mostSteps, Node, StepRecord, nodeAt, stepRecordAt}
 use Rattle.spec_writer.specs.Writing.{holds, whole}
 
 -- the records that a buffer spells
 unfoldable pub nodesLent : Bytes → List Node
 nodesLent bs = listed (λ i. nodeAt bs (nodeSize * i)) 0 (holds nodeSize bs)
 
-unfoldable pub rowsLent : Bytes → List Row
-rowsLent bs = listed (λ i. rowAt bs (stepSize * i)) 0 (holds stepSize bs)
+unfoldable pub stepRecordsLent : Bytes → List StepRecord
+stepRecordsLent bs = listed (λ i. stepRecordAt bs (stepSize * i)) 0 (holds stepSize bs)
 
 -- what the code tries before it lays a file
 unfoldable pub lendable : Bytes → Bytes → Bool

@@ -1,16 +1,16 @@
--- What is promised of the writer, in the words of its request. Proved in proofs/ReadBack and proofs/Again. Assumes nothing.
+-- What is promised of the writer, in the words of its request. Proved in proofs/ReadBack and proofs/Again.
 use Prim.Native.Nat.{ℕ, _≤_, _<_}
 use mathlib.Core.Path.{_≡_}
 use mathlib.Core.Bool.{false}
 use lib.ListN.{length, take, drop}
 use Rattle.actions.specs.Sets.{ActionSet}
 use Rattle.spec_policy.specs.Bytes.{Bytes, put}
-use Rattle.spec_policy.specs.Records.{nodes, rows, nodeBytes, stepBytes}
+use Rattle.spec_policy.specs.Records.{nodes, stepRecords, nodeBytes, stepBytes}
 use Rattle.spec_policy.specs.Tree.{regulated, tree}
 use Rattle.spec_check.specs.Interference.{effects}
 use Rattle.spec_check.specs.Check.{passes, refused, check}
 use Rattle.spec_writer.specs.Writing.{written, wrote, Result, writes}
-use Rattle.spec_writer.specs.Lent.{nodesLent, rowsLent, lendable, Lent}
+use Rattle.spec_writer.specs.Lent.{nodesLent, stepRecordsLent, lendable, Lent}
 
 -- "Whatever it writes is read back by the check as the same records": the first n bytes of the output. "Output bytes after the file
 -- stay."
@@ -20,7 +20,7 @@ pub record ReadBack (lentNodes lentSteps out : Bytes) (n : ℕ) (x : Result) : T
   pub after : drop n (x .out) ≡ drop n out
   pub passed : check (take n (x .out)) ≡ passes (regulated (tree (take n (x .out)))) (effects (tree (take n (x .out))))
   pub same-nodes : nodes (take n (x .out)) ≡ nodesLent lentNodes
-  pub same-steps : rows (take n (x .out)) ≡ rowsLent lentSteps
+  pub same-steps : stepRecords (take n (x .out)) ≡ stepRecordsLent lentSteps
   pub node-bytes : nodeBytes (take n (x .out)) ≡ lentNodes
   pub step-bytes : stepBytes (take n (x .out)) ≡ lentSteps
 

@@ -1,4 +1,4 @@
--- "Write the policy file." One definition from all that the writer is given to all that it gives. Assumes nothing.
+-- "Write the policy file." One definition from all that the writer is given to all that it gives.
 use Prim.Native.Nat.{ℕ, _/_, _%_}
 use mathlib.Core.Bool.{Bool, true, false, _&&_}
 use mathlib.Core.List.{List, _++_}

@@ -1,4 +1,4 @@
--- Text put after text: nothing, two pieces, numbers and members of a set. Assumes nothing.
+-- Text put after text: nothing, two pieces, numbers and members of a set.
 use Prim.Native.Nat.{ℕ, zero, suc, _+_, _-_, _/_, _%_, _^_, _≤_, _<_, min}
 use native.Mathlib.Nat.{pow-suc}
 use native.Mathlib.Omega.{arith}

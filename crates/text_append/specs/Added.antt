@@ -1,4 +1,4 @@
--- Text put into a lent buffer after other text. Assumes nothing.
+-- Text put into a lent buffer after other text.
 use Prim.Native.Nat.{ℕ, zero, suc, _+_, _-_, _≤_, _<_, min}
 use mathlib.Core.Path.{_≡_}
 use mathlib.Core.Bool.{Bool, true, false}

@@ -1,4 +1,4 @@
--- The line that says a refusal, the same in every program. Assumes nothing.
+-- The line that says a refusal, the same in every program.
 use Prim.Native.Nat.{ℕ}
 use mathlib.Core.List.{_++_}
 use Rattle.spec_policy.specs.Bytes.{Bytes}

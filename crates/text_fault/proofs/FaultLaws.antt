@@ -1,4 +1,4 @@
--- Laws of what was expected in a line. Assumes nothing.
+-- Laws of what was expected in a line.
 use Prim.Native.Nat.{ℕ, zero, suc, _+_, _≤_, _<_}
 use native.Mathlib.Omega.{arith}
 use mathlib.Core.Path.{_≡_, refl, sym, ap, ap₂, _∙_}

@@ -1,4 +1,4 @@
--- Laws of how many steps may follow the last node. Assumes nothing.
+-- Laws of how many steps may follow the last node.
 use Prim.Native.Nat.{ℕ, zero, suc, _+_, _-_, _≤_, _<_}
 use native.Mathlib.Omega.{arith}
 use mathlib.Core.Path.{_≡_, refl, sym, ap, _∙_, subst}

@@ -1,4 +1,4 @@
--- Laws of the table of what is expected. Assumes nothing.
+-- Laws of the table of what is expected.
 use Prim.Native.Nat.{ℕ, _+_, _-_, _≤_, _<_}
 use native.Mathlib.Omega.{arith}
 use mathlib.Core.Path.{_≡_, refl, sym, ap, _∙_}

@@ -1,4 +1,4 @@
--- Laws of where a line begins, and of how many there are. Assumes nothing.
+-- Laws of where a line begins, and of how many there are.
 use Prim.Native.Nat.{ℕ, zero, suc, _+_, _-_, _≤_, _<_}
 use native.Mathlib.Omega.{arith}
 use mathlib.Core.Path.{_≡_, refl, sym, ap, _∙_}

@@ -1,4 +1,4 @@
--- What is said of a text that cannot be read: the line, and what was expected in it. Assumes nothing.
+-- What is said of a text that cannot be read: the line, and what was expected in it.
 use Prim.Native.Nat.{ℕ, zero, suc, _-_}
 use Prim.Native.String.{String}
 use mathlib.Core.List.{List, [], _∷_, _++_}

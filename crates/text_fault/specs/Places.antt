@@ -1,4 +1,4 @@
--- What the code's places and tables say of a text. Assumes nothing.
+-- What the code's places and tables say of a text.
 use Prim.Native.Nat.{ℕ, _≤_}
 use mathlib.Core.Path.{_≡_}
 use mathlib.Core.List.{List, [], _∷_, _++_}

@@ -15,13 +15,12 @@ use text_append::append;
 use text_append::append_number;
 use text_line::form_of;
 use text_line::read_line;
+use text_measure::NEWLINE;
 use text_measure::line_at;
 use text_measure::line_end;
 use text_words::next_word;
 
 // ---- the line
-
-const NEWLINE: u8 = 10;
 
 // How many lines a byte adds to those after it.
 fn adds(b: u8) -> usize

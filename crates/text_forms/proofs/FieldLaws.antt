@@ -1,4 +1,4 @@
--- A record's fields: its line says the whole of it just where each is named or zero. Assumes nothing.
+-- A record's fields: its line says the whole of it just where each is named or zero.
 use Prim.Native.Nat.{ℕ, zero, suc, _^_, _≤_, _<_}
 use native.Mathlib.Omega.{arith}
 use mathlib.Core.Path.{_≡_, refl, sym, ap, ap₂, _∙_, subst}
@@ -12,7 +12,7 @@ use borrow.Author.Tests.{eq-eqb, eqb-true, eqb-false}
 use Rattle.actions.proofs.Tests.{both, of-yes}
 use Rattle.spec_policy.specs.Bytes.{Bytes, spelt, number, spell, Small}
 use Rattle.spec_policy.specs.Lists.{every}
-use Rattle.spec_policy.specs.Records.{nodeAt, rowAt}
+use Rattle.spec_policy.specs.Records.{nodeAt, stepRecordAt}
 use Rattle.spec_policy.specs.Parts as parts
 use Rattle.spec_policy.proofs.ByteLaws.{number-less, spelt-of-spell}
 use Rattle.spec_policy.proofs.NumberLaws.{number-byte}
@@ -34,7 +34,7 @@ size-least node = lit≤ tt
 size-least step = lit≤ tt
 
 pub first-four : (s : Sort) (bs : Bytes) (i : ℕ) → i < 4 → number bs i 1 ≡ getD (fieldsIn s bs) i 0
-unfolding fieldsIn nodeAt rowAt
+unfolding fieldsIn nodeAt stepRecordAt
 first-four node bs zero h = refl
 first-four node bs (suc zero) h = refl
 first-four node bs (suc (suc zero)) h = refl
@@ -196,7 +196,7 @@ module _ (f : Form) (bs : Bytes) (small : Small bs) (is : getD bs 0 0 ≡ f .kin
       cc
 
   same-whole : (s : Sort) (l : length bs ≡ size s) → recordOf s (countIn s bs) (ys s l) ≡ recordOf s (countIn s bs) (xs s l) → T (whole s (f .slots) (xs s l))
-  unfolding whole recordOf bare parts.node parts.step spell number size xs fieldsIn nodeAt rowAt
+  unfolding whole recordOf bare parts.node parts.step spell number size xs fieldsIn nodeAt stepRecordAt
   same-whole node l q =
       four-and (named (f .slots) (xs node l) 1) (named (f .slots) (xs node l) 2) (named (f .slots) (xs node l) 4) (named (f .slots) (xs node l) 5)
       (named-at node l 1 refl (lit≤ tt) (ap (λ (b : Bytes). getD b 1 0) q))

@@ -1,4 +1,4 @@
--- The code's match on a record's kind against the table of lines. Assumes nothing.
+-- The code's match on a record's kind against the table of lines.
 use Prim.Native.Nat.{ℕ}
 use native.Mathlib.Omega.{arith}
 use mathlib.Core.Path.{_≡_, refl, sym, ap, _∙_, subst}

@@ -1,4 +1,4 @@
--- What the code knows of a kind of line: all but the words' spelling as a string is the definition's. Assumes nothing.
+-- What the code knows of a kind of line: all but the words' spelling as a string is the definition's.
 use Prim.Native.Nat.{ℕ, _≤_}
 use mathlib.Core.Path.{_≡_}
 use mathlib.Core.Bool.{true, false}

@@ -1,4 +1,4 @@
--- Does a line say the whole record? As the code tests it, field by field. Assumes nothing.
+-- Does a line say the whole record? As the code tests it, field by field.
 use Prim.Native.Nat.{ℕ}
 use mathlib.Core.Bool.{Bool, false, _&&_, _||_}
 use mathlib.Core.List.{List, [], _∷_}

@@ -1,4 +1,4 @@
--- Laws of a line's fields, filled slot by slot. Assumes nothing.
+-- Laws of a line's fields, filled slot by slot.
 use Prim.Native.Nat.{ℕ, _+_, _≤_, _<_}
 use native.Mathlib.Numerals.{add-one}
 use mathlib.Core.Path.{_≡_, refl, sym, ap, _∙_}

@@ -1,4 +1,4 @@
--- Laws of the table of lines: a form found by its first word, place by place. Assumes nothing.
+-- Laws of the table of lines: a form found by its first word, place by place.
 use Prim.Native.Nat.{ℕ, _+_, _≤_, _<_}
 use native.Mathlib.Numerals.{add-one}
 use mathlib.Core.Path.{_≡_, refl, sym, ap, _∙_}

@@ -1,4 +1,4 @@
--- Laws of a line read by its words. Assumes nothing.
+-- Laws of a line read by its words.
 use Prim.Native.Nat.{ℕ, _≤_, _<_}
 use mathlib.Core.Path.{_≡_, sym, ap, _∙_}
 use mathlib.Core.Bool.{true, false}

@@ -1,4 +1,4 @@
--- Two runs of bytes compared byte by byte, by places. Assumes nothing.
+-- Two runs of bytes compared byte by byte, by places.
 use Prim.Native.Nat.{ℕ, suc, _+_, _-_, _≤_, _<_}
 use native.Mathlib.Omega.{arith}
 use mathlib.Core.Path.{_≡_, sym, ap, ap₂, _∙_}

@@ -1,4 +1,4 @@
--- Laws of slots by number. Assumes nothing.
+-- Laws of slots by number.
 use Prim.Native.Nat.{ℕ, _-_, _≤_, _<_}
 use mathlib.Core.Path.{_≡_, refl, sym, ap, _∙_, subst}
 use mathlib.Core.Bool.{Bool, true, false}

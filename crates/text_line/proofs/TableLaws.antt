@@ -1,4 +1,4 @@
--- Laws of tables: what stands at a place of one, by one computation over the whole. Assumes nothing.
+-- Laws of tables: what stands at a place of one, by one computation over the whole.
 use Prim.Native.Nat.{ℕ, _+_, _<_}
 use native.Mathlib.Omega.{arith}
 use mathlib.Core.Path.{_≡_, ap, _∙_}

@@ -1,4 +1,4 @@
--- The table of lines by places, as the code has it. Assumes nothing.
+-- The table of lines by places, as the code has it.
 use Prim.Native.Nat.{ℕ, _+_, _-_}
 use mathlib.Core.Bool.{Bool, true, false}
 use mathlib.Core.List.{List, [], _∷_, _++_, map}

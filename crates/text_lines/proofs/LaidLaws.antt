@@ -1,4 +1,4 @@
--- Lines one after another: of records, of a leaf's steps, of all. Assumes nothing.
+-- Lines one after another: of records, of a leaf's steps, of all.
 use Prim.Native.Nat.{ℕ, zero, suc, _+_, _-_, _*_, _≤_, _<_}
 use native.Mathlib.Omega.{arith}
 use mathlib.Core.Path.{_≡_, refl, sym, ap, ap₂, _∙_, subst}

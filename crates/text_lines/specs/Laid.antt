@@ -1,4 +1,4 @@
--- Lines in a lent buffer, of records that may have none. Assumes nothing.
+-- Lines in a lent buffer, of records that may have none.
 use Prim.Native.Nat.{ℕ}
 use mathlib.Core.List.{List, [], _∷_, _++_}
 use Rattle.spec_policy.specs.Bytes.{Bytes}

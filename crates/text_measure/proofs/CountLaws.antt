@@ -1,4 +1,4 @@
--- Laws of the tally: what each line adds to the number of records. Assumes nothing.
+-- Laws of the tally: what each line adds to the number of records.
 use Prim.Native.Nat.{ℕ, suc, _+_, _-_, _≤_, _<_}
 use native.Mathlib.Numerals.{add-one}
 use native.Mathlib.Omega.{arith}

@@ -1,4 +1,4 @@
--- Laws of a text's lines by places. Assumes nothing.
+-- Laws of a text's lines by places.
 use Prim.Native.Nat.{ℕ, zero, suc, _+_, _-_, _≤_, _<_}
 use native.Mathlib.Omega.{arith}
 use mathlib.Core.Path.{_≡_, refl, sym, ap, _∙_}

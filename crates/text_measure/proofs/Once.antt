@@ -1,4 +1,4 @@
--- What was measured is known by its meaning. Assumes nothing.
+-- What was measured is known by its meaning.
 use mathlib.Core.Path.{_≡_, refl, sym, ap, _∙_}
 use Rattle.text_measure.specs.declared.Outcome.{Outcome}
 use Rattle.text_measure.specs.declared.Outcome.the-variants.{Records, BadLine}

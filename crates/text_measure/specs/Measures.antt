@@ -1,4 +1,4 @@
--- What the code finds of a text by places. Assumes nothing.
+-- What the code finds of a text by places.
 use Prim.Native.Nat.{ℕ, suc, _+_, _/_, _≤_, _<_}
 use mathlib.Core.Path.{_≡_}
 use mathlib.Core.Bool.{true, false}

@@ -8,7 +8,7 @@ ghost use Rattle.text_measure.specs.Measures.{LineEnds, ReadsOn, Counted
 use text_line::Line;
 use text_line::read_line;
 
-const NEWLINE: u8 = 10;
+pub const NEWLINE: u8 = 10;
 
 // Where the line that begins at `at` ends.
 pub fn line_end(text: &[u8], at: usize) -> usize

@@ -1,4 +1,4 @@
--- How long a text may be: 240 bytes for each record. Assumes nothing.
+-- How long a text may be: 240 bytes for each record.
 use Prim.Native.Nat.{ℕ, zero, suc, _+_, _*_, _/_, _≤_, _<_}
 use Prim.Native.Char.{code}
 use native.Mathlib.Omega.{arith}

@@ -1,4 +1,4 @@
--- Text measured on no room, and then written. Assumes nothing.
+-- Text measured on no room, and then written.
 use Prim.Native.Nat.{ℕ, _≤_, _<_}
 use native.Mathlib.Omega.{arith}
 use mathlib.Core.Path.{_≡_, refl, ap, subst₂}

@@ -1,4 +1,4 @@
--- What printing gives: its answer, and every byte of the lent buffer. Assumes nothing.
+-- What printing gives: its answer, and every byte of the lent buffer.
 use mathlib.Core.Path.{_≡_}
 use mathlib.Core.Bool.{true, false}
 use lib.Dec.{leb}

@@ -1,4 +1,4 @@
--- One line copied, and what is left to be copied. Assumes nothing.
+-- One line copied, and what is left to be copied.
 use Prim.Native.Nat.{ℕ, zero, suc, _+_, _*_, _≤_, _<_}
 use native.Mathlib.Omega.{arith}
 use mathlib.Core.Path.{_≡_, refl, sym, ap, _∙_}

@@ -1,4 +1,4 @@
--- The first four fields of a line that was read are bytes. Assumes nothing.
+-- The first four fields of a line that was read are bytes.
 use Prim.Native.Nat.{ℕ, zero, suc, _-_, _^_, _≤_, _<_}
 use native.Mathlib.Omega.{arith}
 use mathlib.Core.Path.{_≡_, refl, ap, _∙_, subst}

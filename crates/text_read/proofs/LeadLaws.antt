@@ -1,4 +1,4 @@
--- Laws of the steps before the next node, line by line. Assumes nothing.
+-- Laws of the steps before the next node, line by line.
 use Prim.Native.Nat.{ℕ, _+_, _≤_, _<_}
 use native.Mathlib.Numerals.{one-add}
 use native.Mathlib.Omega.{arith}

@@ -1,4 +1,4 @@
--- All lines copied, and what reading a text gives. Assumes nothing.
+-- All lines copied, and what reading a text gives.
 use Prim.Native.Nat.{ℕ, zero, suc, _+_, _*_, _/_, _%_, _≤_, _<_}
 use native.Mathlib.Omega.{arith}
 use mathlib.Core.Path.{_≡_, refl, sym, ap, ap₂, _∙_}

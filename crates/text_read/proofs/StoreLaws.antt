@@ -1,4 +1,4 @@
--- A record stored byte by byte. Assumes nothing.
+-- A record stored byte by byte.
 use Prim.Native.Nat.{ℕ, _+_, _≤_, _<_}
 use native.Mathlib.Numerals.{add-one}
 use native.Mathlib.Omega.{arith}

@@ -1,4 +1,4 @@
--- What is written line by line is what the text is read as. Assumes nothing.
+-- What is written line by line is what the text is read as.
 use Prim.Native.Nat.{ℕ, zero, suc, _+_, _*_, _≤_}
 use native.Mathlib.Omega.{arith}
 use mathlib.Core.Path.{_≡_, refl, sym, ap, ap₂, _∙_}

@@ -1,4 +1,4 @@
--- What reading a text into two buffers gives: the answer, and what the buffers hold then. Assumes nothing.
+-- What reading a text into two buffers gives: the answer, and what the buffers hold then.
 use Prim.Native.Nat.{_/_}
 use mathlib.Core.Bool.{true, false, _&&_}
 use lib.Dec.{leb}

@@ -1,4 +1,4 @@
--- Lines written into two buffers, record after record. Assumes nothing.
+-- Lines written into two buffers, record after record.
 use Prim.Native.Nat.{ℕ, suc, _+_, _*_, _≤_, _<_}
 use mathlib.Core.Path.{_≡_}
 use mathlib.Core.List.{List, [], _∷_}

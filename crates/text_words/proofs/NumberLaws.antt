@@ -1,4 +1,4 @@
--- Laws of a number read digit by digit, by places. Assumes nothing.
+-- Laws of a number read digit by digit, by places.
 use Prim.Native.Nat.{ℕ, _+_, _*_, _-_, _≤_, _<_}
 use native.Mathlib.Numerals.{add-one}
 use native.Mathlib.Omega.{arith}

@@ -1,4 +1,4 @@
--- A number that was read is known by its meaning. Assumes nothing.
+-- A number that was read is known by its meaning.
 use Prim.Native.Nat.{ℕ}
 use mathlib.Core.Path.{_≡_, refl, sym, ap, _∙_}
 use mathlib.Core.Option.{Option, none, some}

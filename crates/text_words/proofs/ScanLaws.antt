@@ -1,4 +1,4 @@
--- Laws of a line's words by places: blanks passed over, letters gathered, the word that they make. Assumes nothing.
+-- Laws of a line's words by places: blanks passed over, letters gathered, the word that they make.
 use Prim.Native.Nat.{ℕ, _+_, _≤_, _<_}
 use native.Mathlib.Numerals.{add-one}
 use native.Mathlib.Omega.{arith}

@@ -1,4 +1,4 @@
--- Laws of what is taken from the front of a line's words. Assumes nothing.
+-- Laws of what is taken from the front of a line's words.
 use Prim.Native.Nat.{ℕ, _+_, _-_, _*_, _≤_}
 use native.Mathlib.Omega.{arith}
 use mathlib.Core.Path.{_≡_, refl, sym, ap, _∙_, subst}

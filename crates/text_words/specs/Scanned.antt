@@ -1,4 +1,4 @@
--- What the code's places and numbers say of a line. Assumes nothing.
+-- What the code's places and numbers say of a line.
 use Prim.Native.Nat.{ℕ, _≤_, _<_}
 use mathlib.Core.Path.{_≡_}
 use mathlib.Core.Bool.{true, false}

@@ -1,4 +1,4 @@
--- Laws of a call's parts: each lies after the one before, and what a reader of so many bytes may say. Assumes nothing.
+-- Laws of a call's parts: each lies after the one before, and what a reader of so many bytes may say.
 use Prim.Native.Nat.{ℕ, _+_, _-_, _≤_, _<_}
 use mathlib.Core.Path.{_≡_, refl, sym, ap, ap₂, subst, _∙_}
 use mathlib.Core.List.{_++_}

@@ -1,4 +1,4 @@
--- A batch's bytes: a call, and its answer. Assumes nothing.
+-- A batch's bytes: a call, and its answer.
 use Prim.Native.Nat.{ℕ, _+_, _-_, _≤_, _<_}
 use mathlib.Core.Path.{_≡_}
 use mathlib.Core.Bool.{true, false}

@@ -1,4 +1,4 @@
--- A node's status as it is read and written. Assumes nothing.
+-- A node's status as it is read and written.
 use Prim.Native.Nat.{ℕ, zero, suc, _+_, _<_}
 use native.Mathlib.Omega.{arith}
 use mathlib.Core.Path.{_≡_, refl, sym, ap, ap₂, _∙_, subst}
@@ -12,15 +12,15 @@ use Rattle.spec_turns.specs.Turn.{Phase, stillAsked}
 use Rattle.turn_paths.specs.Memory.{Cell}
 use Rattle.turn_paths.specs.Choices.{endSup}
 use Rattle.turn_paths.specs.Paths.{done, stopped}
-use Rattle.turn_memory.specs.Words.{Words, packed, view, Only}
+use Rattle.turn_memory.specs.Words.{Words, packed, memoryOf, Only}
 use Rattle.turn_memory.proofs.CellLaws.{celled-packed, view-here, only-set, view-only}
 use Rattle.turn_ends.specs.Ends.{ended, sidesGive, SettledAt, ParEnd, SeqEnd, waitingGives, Rereads, Reread}
 
 -- the cell that was written
 written : (ws ws′ : Words) (i s m : ℕ) → (i < mostNodes) × (i < length ws) → s < 256 → m < 256 → ws′ ≡ set ws i (packed s 0 m 0)
-    → view ws′ i ≡ record { status = statusOf s; asked = eqb m 1; offset = 0; counter = 0 }
+    → memoryOf ws′ i ≡ record { status = statusOf s; asked = eqb m 1; offset = 0; counter = 0 }
 written ws ws′ i s m hi hs hm e =
-    ap (λ (xs : Words). view xs i) e ∙ view-here ws i (packed s 0 m 0) (hi .0) (hi .1) ∙ celled-packed s 0 m 0 hs (omega arith) hm (omega arith)
+    ap (λ (xs : Words). memoryOf xs i) e ∙ view-here ws i (packed s 0 m 0) (hi .0) (hi .1) ∙ celled-packed s 0 m 0 hs (omega arith) hm (omega arith)
 
 only-written : (ws ws′ : Words) (i x : ℕ) → ws′ ≡ set ws i x → Only i ws ws′
 only-written ws ws′ i x e = subst (Only i ws) (sym e) (only-set ws i x)
@@ -49,10 +49,10 @@ ended-few (suc zero) h = refl
 ended-few (suc (suc y)) h = absurd (omega (arith, h))
 
 module _ {policy : Bytes} {i : ℕ} {ph : Phase} {ws ws′ : Words} {s : ℕ} (st : SettledAt policy i ph ws ws′ s) (x y : ℕ) where
-  halted-here : {v : Bool} → isHalted (statusOf s) ≡ v → isHalted (view ws′ i .status) ≡ v
+  halted-here : {v : Bool} → isHalted (statusOf s) ≡ v → isHalted (memoryOf ws′ i .status) ≡ v
   halted-here e = ap isHalted (sym (st .says)) ∙ e
 
-  par-by : (r : ℕ) → ended r ≡ done (not (isHalted (view ws′ i .status)) && (eqb x 1 || eqb y 1)) → ParEnd policy i ph ws ws′ x y r
+  par-by : (r : ℕ) → ended r ≡ done (not (isHalted (memoryOf ws′ i .status)) && (eqb x 1 || eqb y 1)) → ParEnd policy i ph ws ws′ x y r
   par-by r e = record { settled = st .settled; only = st .only; says = e }
 
   pub par-halted : isHalted (statusOf s) ≡ true → ParEnd policy i ph ws ws′ x y 0

@@ -7,9 +7,10 @@ ghost use Rattle.turn_memory.specs.Words.{wordCount, packed};
 ghost use Rattle.turn_memory.specs.Phases.{phaseOf};
 ghost use Rattle.turn_sides.specs.Sides.{Sided};
 ghost use Rattle.turn_ends.specs.Ends.{SettledAt, ParEnd, SeqEnd, Reread, Caught};
+use turn_memory::AFTER;
+use turn_memory::WORDS;
 use turn_memory::put;
 use turn_memory::status_at;
-use turn_sides::AFTER;
 use turn_sides::join;
 use turn_sides::join_of;
 use turn_sides::joined_at;
@@ -26,7 +27,7 @@ pub const SUPPRESSED: usize = 1;
 
 pub const STOPPED: usize = 2;
 
-fn settle(policy: &[u8], mem: &mut [u64; 157], node: usize, phase: u8) -> u8
+fn settle(policy: &[u8], mem: &mut [u64; WORDS], node: usize, phase: u8) -> u8
     requires { ⌜ Sided (now policy) node × (length (now mem) ≡ wordCount) ⌝ }
     ensures { λ r. ⌜ SettledAt (now (policy .entry)) node (phaseOf phase) (now (mem .entry)) (now (mem .exit)) r ⌝ }
 {
@@ -38,7 +39,7 @@ fn settle(policy: &[u8], mem: &mut [u64; 157], node: usize, phase: u8) -> u8
 // The end of a parallel node's phase, whose sides ended with x and y.
 pub fn par_end(
     policy: &[u8],
-    mem: &mut [u64; 157],
+    mem: &mut [u64; WORDS],
     node: usize,
     phase: u8,
     x: usize,
@@ -58,7 +59,7 @@ pub fn par_end(
 }
 
 // The end of a sequential node's phase, whose last part ended with x.
-pub fn seq_end(policy: &[u8], mem: &mut [u64; 157], node: usize, phase: u8, x: usize) -> usize
+pub fn seq_end(policy: &[u8], mem: &mut [u64; WORDS], node: usize, phase: u8, x: usize) -> usize
     requires { ⌜ (Sided (now policy) node × (length (now mem) ≡ wordCount)) × (x < 2) ⌝ }
     ensures { λ r. ⌜ SeqEnd (now (policy .entry)) node (phaseOf phase) (now (mem .entry)) (now (mem .exit)) x r ⌝ }
 {
@@ -70,7 +71,7 @@ pub fn seq_end(policy: &[u8], mem: &mut [u64; 157], node: usize, phase: u8, x: u
 }
 
 // A sequential node's status once an insert has been given on. Decided, it stops whatever runs beneath it.
-pub fn reread(policy: &[u8], mem: &mut [u64; 157], node: usize) -> usize
+pub fn reread(policy: &[u8], mem: &mut [u64; WORDS], node: usize) -> usize
     requires { ⌜ Sided (now policy) node × (length (now mem) ≡ wordCount) ⌝ }
     ensures { λ r. ⌜ Reread (now (policy .entry)) node (now (mem .entry)) (now (mem .exit)) r ⌝ }
 {
@@ -95,7 +96,7 @@ pub fn caught(x: usize, node: usize) -> usize
 }
 
 // A trivial or an unsatisfiable node is over once it is asked.
-pub fn over(mem: &mut [u64; 157], node: usize, status: u8) -> usize
+pub fn over(mem: &mut [u64; WORDS], node: usize, status: u8) -> usize
     requires { ⌜ node < mostNodes ⌝ }
     ensures { λ r. ⌜ (r ≡ 0) × (now (mem .exit) ≡ set (now (mem .entry)) node (packed status 0 0 0)) ⌝ }
 {

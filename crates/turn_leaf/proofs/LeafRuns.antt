@@ -1,4 +1,4 @@
--- A leaf that goes on by itself, step after step: what its run is after some of them, and that it stops. Assumes nothing.
+-- A leaf that goes on by itself, step after step: what its run is after some of them, and that it stops.
 use Prim.Native.Nat.{ℕ, zero, suc, _-_, _≤_, _<_}
 use native.Mathlib.Omega.{arith}
 use native.Mathlib.Nat.{le-of-suc-le-suc, not-suc-le-zero}

@@ -1,4 +1,4 @@
--- Where a leaf's phase begins: the offset from which it goes on, and where a next that is left leads. Assumes nothing.
+-- Where a leaf's phase begins: the offset from which it goes on, and where a next that is left leads.
 use Prim.Native.Nat.{ℕ, _+_, _<_, _≤_}
 use native.Mathlib.Omega.{arith}
 use mathlib.Core.Path.{_≡_, refl, sym, ap, _∙_}
@@ -9,15 +9,15 @@ use lib.ListN.{getD}
 use borrow.Author.Tests.{ne-eqb, eqb-true, eqb-false, lt-ltb, le-ltb, ltb-true, ltb-false}
 use Rattle.actions.specs.Sets.{ActionSet}
 use Rattle.spec_policy.specs.Bytes.{Bytes, number}
-use Rattle.spec_policy.specs.Records.{rowAt}
+use Rattle.spec_policy.specs.Records.{stepRecordAt}
 use Rattle.spec_policy.specs.Steps.{Step, next, ok, sup, ins, acase, spend, end, halt, stepOf}
 use Rattle.spec_policy.specs.Tree.{leaf, numberOf, regulated}
 use Rattle.spec_turns.specs.Status.{Status}
-use Rattle.spec_turns.specs.State.{State, at, offset, counter}
+use Rattle.spec_turns.specs.State.{State, leafState, offset, counter}
 use Rattle.spec_turns.specs.Turn.{Phase, before, after, closing, takeOf, doneOf, leafWork, isAsked}
 use Rattle.file_records.proofs.Rows.{of-kind, by-kind}
 use Rattle.turn_paths.specs.Run.{flat}
-use Rattle.turn_paths.specs.Memory.{Mem, leafed, held, ranOf}
+use Rattle.turn_paths.specs.Memory.{Mem, leafWith, held, ranOf}
 use Rattle.turn_paths.proofs.Begin.{asked-running, asked-works, works}
 use Rattle.turn_memory.specs.Phases.{phaseOf, pendingIn}
 use Rattle.turn_leaf.specs.Leaf.{Quietly, goesOn, leaving, begins}
@@ -66,15 +66,15 @@ module _ (code : List Step) (o p : ℕ) where
 -- ---- the phase of a leaf that is asked
 
 module _ (i : ℕ) (r : ActionSet) (c : ℕ) (code : List Step) (m : Mem) where
-  works-on : (ph : Phase) (s : Status) (k : Bool) (o n : ℕ) → Quietly (flat (works (leaf i r c code) ph (at s k o n))) (goesOn i code (pendingIn ph) (begins ph code o) n)
+  works-on : (ph : Phase) (s : Status) (k : Bool) (o n : ℕ) → Quietly (flat (works (leaf i r c code) ph (leafState s k o n))) (goesOn i code (pendingIn ph) (begins ph code o) n)
   unfolding works leafWork offset counter flat goesOn pendingIn begins
   works-on (before a) s k o n = quietly-ran i o _
   works-on after s k o n = quietly-same refl
   works-on closing s k o n = quietly-ran i o _
 
-  asked-held : (ph : Phase) → isAsked r ph (held (leaf i r c code) m) ≡ true → held (leaf i r c code) m ≡ at (m i .status) (m i .asked) (m i .offset) (m i .counter)
-  unfolding held leafed numberOf
-  asked-held ph asks = rw (asked-running r ph (leaf i r c code) m asks, leafed)
+  asked-held : (ph : Phase) → isAsked r ph (held (leaf i r c code) m) ≡ true → held (leaf i r c code) m ≡ leafState (m i .status) (m i .asked) (m i .offset) (m i .counter)
+  unfolding held leafWith numberOf
+  asked-held ph asks = rw (asked-running r ph (leaf i r c code) m asks, leafWith)
 
   pub begun-asked : (ph : Phase) → isAsked r ph (held (leaf i r c code) m) ≡ true
       → Quietly (ranOf (leaf i r c code) ph (held (leaf i r c code) m)) (goesOn i code (pendingIn ph) (begins ph code (m i .offset)) (m i .counter))
@@ -106,13 +106,13 @@ unfolding takeOf doneOf
 leaving-halt b = leaving-none b halt refl refl
 
 module _ (file : Bytes) (at : ℕ) where
-  pub next-read : number file at 1 ≡ 1 → next (number file (at + 2) 1) (number file (at + 3) 1) ≡ stepOf (rowAt file at)
+  pub next-read : number file at 1 ≡ 1 → next (number file (at + 2) 1) (number file (at + 3) 1) ≡ stepOf (stepRecordAt file at)
   unfolding stepOf
   next-read e = of-kind file at 1 (sym e)
 
-  pub leaving-else : (b : Bool) → (number file at 1 ≡ 1 → ⊥) → 0 ≡ leaving b (stepOf (rowAt file at))
-  unfolding takeOf doneOf rowAt
+  pub leaving-else : (b : Bool) → (number file at 1 ≡ 1 → ⊥) → 0 ≡ leaving b (stepOf (stepRecordAt file at))
+  unfolding takeOf doneOf stepRecordAt
   leaving-else b =
-      by-kind (λ k s. (k ≡ 1 → ⊥) → 0 ≡ leaving b s) (rowAt file at) (λ z. absurd (z refl)) (λ z. leaving-none b (ok _) refl refl)
+      by-kind (λ k s. (k ≡ 1 → ⊥) → 0 ≡ leaving b s) (stepRecordAt file at) (λ z. absurd (z refl)) (λ z. leaving-none b (ok _) refl refl)
       (λ z. leaving-none b (sup _) refl refl) (λ z. leaving-none b (ins _ _) refl refl) (λ z. leaving-none b (acase _ _ _) refl refl)
       (λ z. leaving-none b (spend _ _ _) refl refl) (λ z. leaving-none b end refl refl) (λ k z. leaving-halt b)

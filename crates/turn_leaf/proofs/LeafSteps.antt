@@ -1,4 +1,4 @@
--- Where each kind of step leads: the move that the code takes for it is the one of the turn rules. Assumes nothing.
+-- Where each kind of step leads: the move that the code takes for it is the one of the turn rules.
 use Prim.Native.Nat.{ℕ, suc, _-_}
 use native.Mathlib.Omega.{arith}
 use mathlib.Core.Path.{_≡_, refl, sym, subst}

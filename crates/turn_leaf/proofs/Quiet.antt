@@ -1,4 +1,4 @@
--- Silent items before a run. Assumes nothing.
+-- Silent items before a run.
 use Prim.Native.Nat.{ℕ}
 use mathlib.Core.Path.{_≡_, refl, sym, ap, _∙_}
 use mathlib.Core.List.{List, [], _∷_, _++_}

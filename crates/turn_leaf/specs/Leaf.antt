@@ -1,4 +1,4 @@
--- A leaf's part of a phase, as the code runs it: where one step leads, how the phase begins, and what the leaf came to. Assumes nothing.
+-- A leaf's part of a phase, as the code runs it: where one step leads, how the phase begins, and what the leaf came to.
 use Prim.Native.Nat.{ℕ, suc, _≤_}
 use mathlib.Core.Path.{_≡_}
 use mathlib.Core.Bool.{Bool, true, false}
@@ -10,13 +10,13 @@ use Rattle.spec_policy.specs.Steps.{Step, halt, targets, isNext}
 use Rattle.spec_policy.specs.Tree.{leaf}
 use Rattle.spec_check.specs.Lawful.{AllAhead, Inside, LawfulLeaf}
 use Rattle.spec_turns.specs.Status.{running, statusOf}
-use Rattle.spec_turns.specs.State.{State, at, leafOver}
+use Rattle.spec_turns.specs.State.{State, leafState, leafOver}
 use Rattle.spec_turns.specs.Process.{Item, lets}
 use Rattle.spec_turns.specs.Turn.{Phase, before, after, closing, takeOf, doneOf}
 use Rattle.spec_turns.specs.Turn as turn
 use Rattle.turn_paths.specs.Run.{Run, halts, goes, flat, first, AllSilent}
 use Rattle.turn_paths.specs.Memory.{Cell, held, ranOf}
-use Rattle.turn_memory.specs.Words.{Words, view, Only}
+use Rattle.turn_memory.specs.Words.{Words, memoryOf, Only}
 use Rattle.turn_memory.specs.Phases.{pendingIn}
 use Rattle.turn_leaf.specs.declared.Move.{Move}
 use Rattle.turn_leaf.specs.declared.Move.the-variants.{On, Ends}
@@ -46,8 +46,8 @@ ends s u = halts (record { state = s; suppressed = u })
 
 -- what a leaf's last move leads to, from offset o with counter c: it stays at a next, it stops for the verdict, it inserts, it is over
 unfoldable pub lasts : ℕ → List Step → Action → (offset counter : ℕ) → Last → Run
-lasts i code a o c Stay = ends (at running false o c) false
-lasts i code a o c (Stops t u) = ends (at running true t c) u
+lasts i code a o c Stay = ends (leafState running false o c) false
+lasts i code a o c (Stops t u) = ends (leafState running true t c) u
 lasts i code a o c (Inserts b t) = goes (lets b) (goesOn i code a t c)
 lasts i code a o c (Over s) = ends (leafOver (statusOf s)) false
 
@@ -103,21 +103,21 @@ begins closing code o = doneOf (getD code o halt)
 module _ (i : ℕ) (r : ActionSet) (c : ℕ) (code : List Step) (ph : Phase) where
   -- the phase has begun, and the leaf is to go on
   pub record Left (ws ws′ : Words) : Type 0 where
-    pub begun : Quietly (ranOf (leaf i r c code) ph (held (leaf i r c code) (view ws))) (onward i code ph (view ws′ i))
-    pub runs : view ws′ i .status ≡ running
+    pub begun : Quietly (ranOf (leaf i r c code) ph (held (leaf i r c code) (memoryOf ws))) (onward i code ph (memoryOf ws′ i))
+    pub runs : memoryOf ws′ i .status ≡ running
     pub only : Only i ws ws′
 
   -- what the leaf came to: an insert, after which it goes on, or its phase's end
   unfoldable pub came : Words → Progress → Run
-  came ws′ (Insert b) = goes (lets b) (onward i code ph (view ws′ i))
-  came ws′ (Done u) = halts (record { state = held (leaf i r c code) (view ws′); suppressed = u })
+  came ws′ (Insert b) = goes (lets b) (onward i code ph (memoryOf ws′ i))
+  came ws′ (Done u) = halts (record { state = held (leaf i r c code) (memoryOf ws′); suppressed = u })
 
   -- a leaf that has inserted still runs
   unfoldable pub Waits : Words → Progress → Type 0
-  Waits ws′ (Insert b) = view ws′ i .status ≡ running
+  Waits ws′ (Insert b) = memoryOf ws′ i .status ≡ running
   Waits ws′ (Done u) = Unit {0}
 
   pub record Ran (ws ws′ : Words) (x : Progress) : Type 0 where
-    pub gives : Quietly (onward i code ph (view ws i)) (came ws′ x)
+    pub gives : Quietly (onward i code ph (memoryOf ws i)) (came ws′ x)
     pub waits : Waits ws′ x
     pub only : Only i ws ws′

@@ -10,7 +10,7 @@ ghost use Rattle.spec_turns.specs.Turn.{affords, isAsked};
 ghost use Rattle.file_records.specs.Code.{codeFrom, StepsIn};
 ghost use Rattle.file_records.specs.Kinds.{stepMeant, insOf, acaseOf, spendOf};
 ghost use Rattle.turn_paths.specs.Memory.{held};
-ghost use Rattle.turn_memory.specs.Words.{wordCount, view};
+ghost use Rattle.turn_memory.specs.Words.{wordCount, memoryOf};
 ghost use Rattle.turn_memory.specs.Phases.{phaseOf, pendingIn};
 ghost use Rattle.turn_leaf.specs.Leaf.{Taken, Passing, Stopped, leaving, begins, Left, Ran};
 use file_records::NEXT;
@@ -20,6 +20,10 @@ use file_view::view_step;
 use file_view::view_step_first;
 use file_view::view_step_kind;
 use file_view::view_step_second;
+use turn_memory::AFTER;
+use turn_memory::MARKED;
+use turn_memory::UNMARKED;
+use turn_memory::WORDS;
 use turn_memory::counter_at;
 use turn_memory::offset_at;
 use turn_memory::put;
@@ -54,14 +58,6 @@ pub struct Stop {
     pub offset: u8,
     pub counter: u64,
 }
-
-// A cell's mark: the leaf was asked before the verdict and still runs.
-const MARKED: u8 = 1;
-
-const UNMARKED: u8 = 0;
-
-// The phase after the verdict; below it is an action, before its verdict, and above it closing.
-const AFTER: u8 = 64;
 
 // "Spend shall go to its yes target when the counter is at least n."
 fn affords(counter: u64, amount: u64) -> bool
@@ -196,7 +192,7 @@ fn begin(policy: &[u8], first: usize, count: usize, offset: u8, phase: u8) -> u8
 // "Before: go from take .. After: go on": a next is left as the phase begins, but not after the verdict. Writes where the leaf is.
 pub fn leave(
     policy: &[u8],
-    mem: &mut [u64; 157],
+    mem: &mut [u64; WORDS],
     node: usize,
     first: usize,
     count: usize,
@@ -204,7 +200,7 @@ pub fn leave(
 )
     requires { ⌜ (length (now mem) ≡ wordCount) × (node < mostNodes) ⌝ }
     requires { ⌜ StepsIn (now policy) first count ⌝ }
-    ensures { λ _. ⌜ ((r start : ℕ) → isAsked r (phaseOf phase) (held (leaf node r start (codeFrom (now (policy .entry)) first count)) (view (now (mem .entry)))) ≡ true
+    ensures { λ _. ⌜ ((r start : ℕ) → isAsked r (phaseOf phase) (held (leaf node r start (codeFrom (now (policy .entry)) first count)) (memoryOf (now (mem .entry)))) ≡ true
         → Left node r start (codeFrom (now (policy .entry)) first count) (phaseOf phase) (now (mem .entry)) (now (mem .exit))) ⌝ }
 {
     let to = begin(policy, first, count, offset_at(mem, node), phase);
@@ -226,7 +222,7 @@ fn pending(phase: u8) -> u8
 // offset and counter zero.
 pub fn run(
     policy: &[u8],
-    mem: &mut [u64; 157],
+    mem: &mut [u64; WORDS],
     node: usize,
     first: usize,
     count: usize,

@@ -1,4 +1,4 @@
--- Inserts in their words: none, one more, and one after another. Assumes nothing.
+-- Inserts in their words: none, one more, and one after another.
 use Prim.Native.Nat.{ℕ, zero, suc, _+_, _*_, _/_, _%_, _^_, _≤_, _<_}
 use native.Mathlib.Nat.{pow-le-pow-right, zero-lt-suc}
 use native.Mathlib.Omega.{arith}

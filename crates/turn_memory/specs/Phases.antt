@@ -1,4 +1,4 @@
--- A phase as the code tells it, in one number: the action that it is about, before the verdict; 64 after it; 65 at closing. Assumes nothing.
+-- A phase as the code tells it, in one number: the action that it is about, before the verdict; 64 after it; 65 at closing.
 use Prim.Native.Nat.{ℕ}
 use mathlib.Core.Bool.{true, false}
 use lib.Dec.{eqb, ltb}

@@ -1,4 +1,4 @@
--- The inserts that were let out, as the words tell them. Assumes nothing.
+-- The inserts that were let out, as the words tell them.
 use Prim.Native.Nat.{ℕ, _+_, _*_, _≤_, _<_}
 use mathlib.Core.Path.{_≡_}
 use mathlib.Core.List.{List, _++_}

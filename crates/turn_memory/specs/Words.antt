@@ -1,4 +1,4 @@
--- The memory of a call as the code keeps it, in words: a cell for each node, the inserts that were let out, and the tables. Assumes nothing.
+-- The memory of a call as the code keeps it, in words: a cell for each node, the inserts that were let out, and the tables.
 use Prim.Native.Nat.{ℕ, _+_, _*_, _/_, _%_}
 use mathlib.Core.Path.{_≡_}
 use mathlib.Core.List.{List}
@@ -55,8 +55,8 @@ unfoldable pub celled : ℕ → Cell
 celled x = record { status = statusOf (statusIn x); asked = eqb (markIn x) 1; offset = offsetIn x; counter = counterIn x }
 
 -- the cells that the words hold: what stands past the last node's is none
-unfoldable pub view : Words → Mem
-view ws i = celled (elim (ltb i mostNodes) [ true ↦ getD ws i 0 | false ↦ 0 ])
+unfoldable pub memoryOf : Words → Mem
+memoryOf ws i = celled (elim (ltb i mostNodes) [ true ↦ getD ws i 0 | false ↦ 0 ])
 
 -- ---- inserts
 

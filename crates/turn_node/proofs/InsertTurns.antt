@@ -1,4 +1,4 @@
--- An insert's way up and down again, where the file has the nodes. Assumes nothing.
+-- An insert's way up and down again, where the file has the nodes.
 use Prim.Native.Nat.{ℕ, suc, _+_, _*_, _-_, _≤_, _<_, _%_, _/_}
 use native.Mathlib.Omega.{arith}
 use mathlib.Core.Path.{_≡_, refl, sym, ap, ap₂, _∙_, subst, subst₂}
@@ -27,7 +27,7 @@ use Rattle.turn_paths.specs.Rising.{takes, Half, Skips, Rising, starts, letsOn,
 use Rattle.turn_paths.proofs.Runs.{ext}
 use Rattle.turn_paths.proofs.Frames.{same-or-not, eqb-same}
 use Rattle.turn_paths.proofs.RisingLaws.{skip, lets-out, given-stopped, stays-in, after-stopped, settled-on, settled-stops}
-use Rattle.turn_memory.specs.Words.{Words, countPlace, toldPlace, toldCount, wordCount, view, pushed}
+use Rattle.turn_memory.specs.Words.{Words, countPlace, toldPlace, toldCount, wordCount, memoryOf, pushed}
 use Rattle.turn_memory.specs.Phases.{phaseOf}
 use Rattle.turn_memory.proofs.CellLaws.{view-same, view-only}
 use Rattle.turn_memory.proofs.ToldLaws.{told-say}
@@ -67,8 +67,8 @@ module _ {policy : Bytes} {ws : Words} {i : ℕ} (h : Stands policy ws i) (k : S
         keeps = t₁ .keeps;
       })
 
-  by-number : {v : Bool} → isRunning (waitingGives policy i ws₁) ≡ v → isRunning (joined (joinAt policy i) running (view ws₁ (numberOf (treeAt policy (rightAt policy i))) .status)) ≡ v
-  by-number e = ap (λ (n : ℕ). isRunning (joined (joinAt policy i) running (view ws₁ n .status))) (number-at policy (rightAt policy i)) ∙ e
+  by-number : {v : Bool} → isRunning (waitingGives policy i ws₁) ≡ v → isRunning (joined (joinAt policy i) running (memoryOf ws₁ (numberOf (treeAt policy (rightAt policy i))) .status)) ≡ v
+  by-number e = ap (λ (n : ℕ). isRunning (joined (joinAt policy i) running (memoryOf ws₁ n .status))) (number-at policy (rightAt policy i)) ∙ e
 
   pub settles-read : m < 2 → (q : ℕ) {ws₂ : Words} → Reread policy i ws₁ ws₂ q → Settles policy i ws ws₂ (ended q)
   settles-read g q {ws₂} r =
@@ -82,14 +82,14 @@ module _ {policy : Bytes} {ws : Words} {i : ℕ} (h : Stands policy ws i) (k : S
       }
     where
       on : (x : Ended) → Rereads policy i ws₁ ws₂ x → {b : Action} {fs : List Feeder} {m₀ m₁ : Mem} {xs ys zs : List Item} {ns : List ℕ} → Clear fs
-          → Rising b fs m₀ (asFeeder policy i ∷ pathAt policy ws i) m₁ xs ns → Half (asFeeder policy i) (pathAt policy ws i) b m₁ (view ws) ys
-          → Turned (pathAt policy ws i) (treeAt policy (rightAt policy i)) after (view ws) (view ws₁) zs (done (eqb m 1)) → Settling b fs m₀ (view ws₂) ((xs ++ ys) ++ zs) ns x
+          → Rising b fs m₀ (asFeeder policy i ∷ pathAt policy ws i) m₁ xs ns → Half (asFeeder policy i) (pathAt policy ws i) b m₁ (memoryOf ws) ys
+          → Turned (pathAt policy ws i) (treeAt policy (rightAt policy i)) after (memoryOf ws) (memoryOf ws₁) zs (done (eqb m 1)) → Settling b fs m₀ (memoryOf ws₂) ((xs ++ ys) ++ zs) ns x
       on (done u) rr {b} {fs} {m₀} {xs = xs} {ys} {zs} {ns} cl p z tt₁ =
-          subst (λ (vs : Words). Owes b fs m₀ (view vs) ((xs ++ ys) ++ zs) ns) (sym (rr .1)) (settled-on cl p z tt₁ (by-number (rr .0)))
+          subst (λ (vs : Words). Owes b fs m₀ (memoryOf vs) ((xs ++ ys) ++ zs) ns) (sym (rr .1)) (settled-on cl p z tt₁ (by-number (rr .0)))
       on (stopped n) rr {b} {fs} {m₀} {xs = xs} {ys} {zs} cl p z tt₁ =
-          subst (λ (v : ℕ). Rose fs b m₀ (view ws₂) ((xs ++ ys) ++ zs) (stopped v)) (sym (rr .0))
+          subst (λ (v : ℕ). Rose fs b m₀ (memoryOf ws₂) ((xs ++ ys) ++ zs) (stopped v)) (sym (rr .0))
           (settled-stops cl p z tt₁ (λ j ne. view-only (r .only) j ne) (by-number (rr .1))
-          (rr .2 ∙ ap (λ (n : ℕ). joined (joinAt policy i) running (view ws₁ n .status)) (sym (number-at policy (rightAt policy i)))))
+          (rr .2 ∙ ap (λ (n : ℕ). joined (joinAt policy i) running (memoryOf ws₁ n .status)) (sym (number-at policy (rightAt policy i)))))
 
 -- ---- an insert is let out
 
@@ -104,7 +104,7 @@ module _ (ws : Words) (b : Action) where
       getD-set-other (set ws at w) countPlace k (toldCount ws + 1) 0 ne ∙ getD-set-other ws at k w 0 (λ e. l (omega (arith, e), omega (arith, e)))
 
   -- the cells and the tables are as they were
-  pushed-view : view (pushed ws b) ≡ view ws
+  pushed-view : memoryOf (pushed ws b) ≡ memoryOf ws
   pushed-view = ext (λ k. view-same ws (pushed ws b) k (λ l. pushed-others k (λ e. absurd (omega (arith, e, l))) (λ z. absurd (omega (arith, z, l)))))
 
   pushed-keeps : Keeps ws (pushed ws b)
@@ -139,7 +139,7 @@ or-false false = refl
 pub record Climbed (policy : Bytes) (b : Action) (ws₀ ws : Words) (n at fed : ℕ) : Type 0 where
   pub items : List Item
   pub owed : List ℕ
-  pub rising : Rising b (pathAt policy ws₀ n) (view ws₀) (pathAt policy ws₀ at) (view ws) items owed
+  pub rising : Rising b (pathAt policy ws₀ n) (memoryOf ws₀) (pathAt policy ws₀ at) (memoryOf ws) items owed
   pub ascends : Ascends n at owed
   pub members : (q : ℕ) → has fed q ≡ among q owed
   pub below : at ≤ n
@@ -174,14 +174,14 @@ module _ {policy : Bytes} {b : Action} {ws₀ ws : Words} {n at fed : ℕ} (h : 
   same-path i = path-same policy ws₀ ws (r .moved .keeps .tables) i
 
   -- no node further up takes it: it is let out
-  pub lets-it-out : Skips b (view ws) (pathAt policy ws at) [] → b < 256 → Owing (pathAt policy ws₀ n) b ws₀ (pushed ws b) n at fed
+  pub lets-it-out : Skips b (memoryOf ws) (pathAt policy ws at) [] → b < 256 → Owing (pathAt policy ws₀ n) b ws₀ (pushed ws b) n at fed
   lets-it-out s hb =
       let mv = moved-then (r .moved) (pushed-moved ws b hb (r .moved .keeps .sized ∙ h .sized)) in
       record {
         items = r .items ++ (lets b ∷ []);
         owed = r .owed;
-        owes = subst (λ (m : Mem). Owes b (pathAt policy ws₀ n) (view ws₀) m (r .items ++ (lets b ∷ [])) (r .owed)) (sym (pushed-view ws b))
-            (lets-out clear (r .rising) (subst (λ (fs : List Feeder). Skips b (view ws) fs []) (same-path at) s));
+        owes = subst (λ (m : Mem). Owes b (pathAt policy ws₀ n) (memoryOf ws₀) m (r .items ++ (lets b ∷ [])) (r .owed)) (sym (pushed-view ws b))
+            (lets-out clear (r .rising) (subst (λ (fs : List Feeder). Skips b (memoryOf ws) fs []) (same-path at) s));
         ascends = r .ascends;
         members = λ q l. r .members q;
         told = mv .told;
@@ -189,9 +189,9 @@ module _ {policy : Bytes} {b : Action} {ws₀ ws : Words} {n at fed : ℕ} (h : 
       }
 
   -- node p takes it
-  module _ {p : ℕ} (s : Skips b (view ws) (pathAt policy ws at) (asFeeder policy p ∷ pathAt policy ws p)) (a : takes (asFeeder policy p) b (view ws) ≡ true) (lp : p < at) where
-    comes : Rising b (pathAt policy ws₀ n) (view ws₀) (asFeeder policy p ∷ pathAt policy ws₀ p) (view ws) (r .items) (r .owed)
-    comes = skip clear (r .rising) (subst₂ (λ (fs gs : List Feeder). Skips b (view ws) fs (asFeeder policy p ∷ gs)) (same-path at) (same-path p) s)
+  module _ {p : ℕ} (s : Skips b (memoryOf ws) (pathAt policy ws at) (asFeeder policy p ∷ pathAt policy ws p)) (a : takes (asFeeder policy p) b (memoryOf ws) ≡ true) (lp : p < at) where
+    comes : Rising b (pathAt policy ws₀ n) (memoryOf ws₀) (asFeeder policy p ∷ pathAt policy ws₀ p) (memoryOf ws) (r .items) (r .owed)
+    comes = skip clear (r .rising) (subst₂ (λ (fs gs : List Feeder). Skips b (memoryOf ws) fs (asFeeder policy p ∷ gs)) (same-path at) (same-path p) s)
 
     at-taker : Feeds policy ws₀ n p
     at-taker = feeds p (on-way h comes) refl
@@ -222,8 +222,8 @@ module _ {policy : Bytes} {b : Action} {ws₀ ws : Words} {n at fed : ℕ} (h : 
           subst (λ (e : Ended). Emits (pathAt policy ws₀ n) b ws₀ ws₁ e) (sym (stop-of m g)) (to-emits (given-stopped clear comes a (u .turned)) (moved-then (r .moved) (turns-moved u)))
 
       module _ (g : m < 2) where
-        to-status : {v : Bool} → emits (joinAt policy p) (view ws₁ (rightAt policy p) .status) (eqb m 1) ≡ v → emits (joinAt policy p) (view ws₁ (numberOf (treeAt policy (rightAt policy p))) .status) (eqb m 1) ≡ v
-        to-status e = ap (λ (j : ℕ). emits (joinAt policy p) (view ws₁ j .status) (eqb m 1)) (number-at policy (rightAt policy p)) ∙ e
+        to-status : {v : Bool} → emits (joinAt policy p) (memoryOf ws₁ (rightAt policy p) .status) (eqb m 1) ≡ v → emits (joinAt policy p) (memoryOf ws₁ (numberOf (treeAt policy (rightAt policy p))) .status) (eqb m 1) ≡ v
+        to-status e = ap (λ (j : ℕ). emits (joinAt policy p) (memoryOf ws₁ j .status) (eqb m 1)) (number-at policy (rightAt policy p)) ∙ e
 
         ascends-on : Ascends n p (p ∷ r .owed)
         ascends-on = more {p = p} {q = p} (omega arith) (omega (arith, lp, r .below)) (ascends-less (omega (arith, lp)) (r .ascends))
@@ -238,7 +238,7 @@ module _ {policy : Bytes} {b : Action} {ws₀ ws : Words} {n at fed : ℕ} (h : 
             on a true c d x z = sym (or-true d)
             on a false c d x z = ap₂ (λ (u v : Bool). u && v) x z ∙ sym (or-false d)
 
-        pub stays-there : emits (joinAt policy p) (view ws₁ (rightAt policy p) .status) (eqb m 1) ≡ false → (fed′ : ℕ) → fed′ ≡ union fed (single p) → Owing (pathAt policy ws₀ n) b ws₀ ws₁ n p fed′
+        pub stays-there : emits (joinAt policy p) (memoryOf ws₁ (rightAt policy p) .status) (eqb m 1) ≡ false → (fed′ : ℕ) → fed′ ≡ union fed (single p) → Owing (pathAt policy ws₀ n) b ws₀ ws₁ n p fed′
         stays-there e fed′ ef =
             let u = its-turn (done-of m g) in
             let mv = moved-then (r .moved) (turns-moved u) in
@@ -252,7 +252,7 @@ module _ {policy : Bytes} {b : Action} {ws₀ ws : Words} {n at fed : ℕ} (h : 
               keeps = mv .keeps;
             }
 
-        pub goes-further : emits (joinAt policy p) (view ws₁ (rightAt policy p) .status) (eqb m 1) ≡ true → (fed′ : ℕ) → fed′ ≡ union fed (single p) → Climbed policy b ws₀ ws₁ n p fed′
+        pub goes-further : emits (joinAt policy p) (memoryOf ws₁ (rightAt policy p) .status) (eqb m 1) ≡ true → (fed′ : ℕ) → fed′ ≡ union fed (single p) → Climbed policy b ws₀ ws₁ n p fed′
         goes-further e fed′ ef =
             let u = its-turn (done-of m g) in record {
               items = r .items ++ u .items;
@@ -302,8 +302,8 @@ module _ {policy : Bytes} {ws₁ ws : Words} {n at fed : ℕ} {b : Action} {ws�
       ys : List Item
       m₁ : Mem
       is : o .items ≡ xs ++ ys
-      rising : Rising b (pathAt policy ws₁ n) (view ws₀) (asFeeder policy at ∷ pathAt policy ws at) m₁ xs rest
-      half : Half (asFeeder policy at) (pathAt policy ws at) b m₁ (view ws) ys
+      rising : Rising b (pathAt policy ws₁ n) (memoryOf ws₀) (asFeeder policy at ∷ pathAt policy ws at) m₁ xs rest
+      half : Half (asFeeder policy at) (pathAt policy ws at) b m₁ (memoryOf ws) ys
       ascends : Ascends n (at + 1) rest
       members : (q : ℕ) → at + 1 ≤ q → has fed q ≡ among q rest
 
@@ -322,7 +322,7 @@ module _ {policy : Bytes} {ws₁ ws : Words} {n at fed : ℕ} {b : Action} {ws�
             by (inl z) = z
             by (inr z) = absurd (true-not-false f (ap₂ (λ (u v : Bool). u || v) (ne-eqb at q z) (none-of (suc q) ns (omega (arith, l)) c)))
 
-        on : (xs : List Item) → o .items ≡ xs → (ns : List ℕ) → Owes b (pathAt policy ws₁ n) (view ws₀) (view ws) xs ns → Ascends n at ns → ((q : ℕ) → at ≤ q → has fed q ≡ among q ns) → First
+        on : (xs : List Item) → o .items ≡ xs → (ns : List ℕ) → Owes b (pathAt policy ws₁ n) (memoryOf ws₀) (memoryOf ws) xs ns → Ascends n at ns → ((q : ℕ) → at ≤ q → has fed q ≡ among q ns) → First
         on xs ex [] w none me = absurd (true-not-false e (me at (omega arith)))
         on xs ex (q ∷ ns) (first {f = f} {gs = gs} {m₁ = m₁} {xs = us} {ys = vs} p z) (more a l c) me =
             let here = head-is a c (sym (me at (omega arith)) ∙ e) in
@@ -333,8 +333,8 @@ module _ {policy : Bytes} {ws₁ ws : Words} {n at fed : ℕ} {b : Action} {ws�
               ys = vs;
               m₁ = m₁;
               is = ex;
-              rising = subst₂ (λ (g : Feeder) (hs : List Feeder). Rising b (pathAt policy ws₁ n) (view ws₀) (g ∷ hs) m₁ us ns) (w .is ∙ ap (asFeeder policy) (at-node w here)) (w .rest ∙ ap (pathAt policy ws₁) (at-node w here) ∙ sym (path-same policy ws₁ ws (kp .tables) at)) p;
-              half = subst₂ (λ (g : Feeder) (hs : List Feeder). Half g hs b m₁ (view ws) vs) (w .is ∙ ap (asFeeder policy) (at-node w here)) (w .rest ∙ ap (pathAt policy ws₁) (at-node w here) ∙ sym (path-same policy ws₁ ws (kp .tables) at)) z;
+              rising = subst₂ (λ (g : Feeder) (hs : List Feeder). Rising b (pathAt policy ws₁ n) (memoryOf ws₀) (g ∷ hs) m₁ us ns) (w .is ∙ ap (asFeeder policy) (at-node w here)) (w .rest ∙ ap (pathAt policy ws₁) (at-node w here) ∙ sym (path-same policy ws₁ ws (kp .tables) at)) p;
+              half = subst₂ (λ (g : Feeder) (hs : List Feeder). Half g hs b m₁ (memoryOf ws) vs) (w .is ∙ ap (asFeeder policy) (at-node w here)) (w .rest ∙ ap (pathAt policy ws₁) (at-node w here) ∙ sym (path-same policy ws₁ ws (kp .tables) at)) z;
               ascends = subst (λ (x : ℕ). Ascends n x ns) (omega (arith, here)) c;
               members = λ k lk. me k (omega (arith, lk)) ∙ ap (λ (v : Bool). v || among k ns) (ne-eqb k (f .number) (λ q. absurd (omega (arith, q, here, lk))));
             }
@@ -355,7 +355,7 @@ module _ {policy : Bytes} {ws₁ ws : Words} {n at fed : ℕ} {b : Action} {ws�
           record {
             items = o .items ++ u .items;
             owed = f .rest;
-            owes = subst (λ (l : List Item). Owes b (pathAt policy ws₁ n) (view ws₀) (view ws₂) (l ++ u .items) (f .rest)) (sym (f .is)) (u .settles (standing h .clear) (f .rising) (f .half));
+            owes = subst (λ (l : List Item). Owes b (pathAt policy ws₁ n) (memoryOf ws₀) (memoryOf ws₂) (l ++ u .items) (f .rest)) (sym (f .is)) (u .settles (standing h .clear) (f .rising) (f .half));
             ascends = f .ascends;
             members = f .members;
             told = mv .told;
@@ -368,7 +368,7 @@ module _ {policy : Bytes} {ws₁ ws : Words} {n at fed : ℕ} {b : Action} {ws�
           let f = firstly in
           let u = subst (Settles policy at ws ws₂) (stop-of q g) s in
           subst (λ (x : Ended). Emits (pathAt policy ws₁ n) b ws₀ ws₂ x) (sym (stop-of q g))
-          (to-emits (subst (λ (l : List Item). Rose (pathAt policy ws₁ n) b (view ws₀) (view ws₂) (l ++ u .items) (stopped (q - 2))) (sym (f .is)) (u .settles (standing h .clear) (f .rising) (f .half))) (moved-on u))
+          (to-emits (subst (λ (l : List Item). Rose (pathAt policy ws₁ n) b (memoryOf ws₀) (memoryOf ws₂) (l ++ u .items) (stopped (q - 2))) (sym (f .is)) (u .settles (standing h .clear) (f .rising) (f .half))) (moved-on u))
 
 -- nothing is owed any more
 rose-quiet : {fs : List Feeder} {b : Action} {m m′ : Mem} {xs : List Item} {u : Bool} → Rose fs b m m′ xs (done u) → Rose fs b m m′ xs (done false)
@@ -379,7 +379,7 @@ pub all-settled : {fs : List Feeder} {b : Action} {ws₀ ws : Words} {n at fed :
 unfolding ended
 all-settled {fs} {b} {ws₀} {ws} {n} {at} l o = to-emits (on (o .items) (o .owed) (o .ascends) (o .owes)) (record { told = o .told; keeps = o .keeps })
   where
-    on : (xs : List Item) (ns : List ℕ) → Ascends n at ns → Owes b fs (view ws₀) (view ws) xs ns → Rose fs b (view ws₀) (view ws) xs (done false)
+    on : (xs : List Item) (ns : List ℕ) → Ascends n at ns → Owes b fs (memoryOf ws₀) (memoryOf ws) xs ns → Rose fs b (memoryOf ws₀) (memoryOf ws) xs (done false)
     on xs [] none (nothing r) = rose-quiet r
     on xs (q ∷ ns) (more a c d) w = absurd (omega (arith, l, a, c))
 
@@ -398,7 +398,7 @@ all-the-way policy {b} {ws} {ws₁} {ws₂} {n} {top} {fed} {x} o f =
     subst (λ (fs : List Feeder). Emits fs b ws ws₂ x) e (f (subst (λ (fs : List Feeder). Owing fs b ws ws₁ n top fed) (sym e) o))
 
 -- which node takes it next, as the code tells it
-pub found-none : (policy : Bytes) (ws : Words) (i r : ℕ) (b : Action) → r ≡ 31 → Finds policy ws i b (ltb r 31) r → Skips b (view ws) (pathAt policy ws i) []
+pub found-none : (policy : Bytes) (ws : Words) (i r : ℕ) (b : Action) → r ≡ 31 → Finds policy ws i b (ltb r 31) r → Skips b (memoryOf ws) (pathAt policy ws i) []
 found-none policy ws i r b e f = subst (λ (x : ℕ). Finds policy ws i b (ltb x 31) x) e f
 
 pub found-some : (policy : Bytes) (ws : Words) (i r : ℕ) (b : Action) → (r ≡ 31 → ⊥) → r ≤ 31 → Finds policy ws i b (ltb r 31) r → Finds policy ws i b true r

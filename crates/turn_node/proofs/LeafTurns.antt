@@ -1,4 +1,4 @@
--- A leaf's phase: up to an insert, the insert's way, and on to the phase's end. Assumes nothing.
+-- A leaf's phase: up to an insert, the insert's way, and on to the phase's end.
 use Prim.Native.Nat.{ℕ, zero, suc, _-_, _≤_, _<_}
 use native.Mathlib.Omega.{arith}
 use mathlib.Core.Path.{_≡_, refl, sym, ap, _∙_, subst}
@@ -18,7 +18,7 @@ use Rattle.turn_paths.specs.Memory.{Mem, held, ranOf}
 use Rattle.turn_paths.specs.Paths.{Feeder, Outside, feeders, within, Shows, rights, Ended, done, isStop, GoesOn}
 use Rattle.turn_paths.proofs.Frames.{own-number, held-apart}
 use Rattle.turn_paths.proofs.PathLaws.{shows-same, shows-then, shows-as, shows-from, shows-silent, within-same, stops-map}
-use Rattle.turn_memory.specs.Words.{Words, view, Only}
+use Rattle.turn_memory.specs.Words.{Words, memoryOf, Only}
 use Rattle.turn_memory.proofs.CellLaws.{view-only}
 use Rattle.turn_sides.specs.Sides.{kindAt}
 use Rattle.turn_tables.specs.Tables.{pathAt}
@@ -47,18 +47,18 @@ left-first (x ∷ xs) p = omega (arith, left-first xs p)
 
 -- each insert takes one
 pub insert-takes : {policy : Bytes} {i : ℕ} {ph : Phase} {ws ws′ : Words} {b : Action} → WentOn policy i ph ws ws′ (Insert b)
-    → itemsLeft (leafRun (treeAt policy i) ph (view ws′)) < itemsLeft (leafRun (treeAt policy i) ph (view ws))
+    → itemsLeft (leafRun (treeAt policy i) ph (memoryOf ws′)) < itemsLeft (leafRun (treeAt policy i) ph (memoryOf ws))
 unfolding itemsLeft
 insert-takes {policy} {i} {ph} {ws} {ws′} {b} w =
-    omega (arith, left-first (w .gives .items) (goes (lets b) (leafRun (treeAt policy i) ph (view ws′))), ap itemsLeft (w .gives .is))
+    omega (arith, left-first (w .gives .items) (goes (lets b) (leafRun (treeAt policy i) ph (memoryOf ws′))), ap itemsLeft (w .gives .is))
 
 -- ---- from one place to another
 
 -- from where p is left the leaf has come to where q is, with these items
 pub record Reaches (policy : Bytes) (i : ℕ) (ws ws′ : Words) (p q : Run) : Type 0 where
   pub items : List Item
-  pub runs : (c : Outside) → feeders c ≡ pathAt policy ws i → Shows (within c (view ws) p) items (within c (view ws′) q)
-  pub kept : (n : ℕ) → holds (treeAt policy i) n ≡ false → rights (pathAt policy ws i) n ≡ false → view ws′ n ≡ view ws n
+  pub runs : (c : Outside) → feeders c ≡ pathAt policy ws i → Shows (within c (memoryOf ws) p) items (within c (memoryOf ws′) q)
+  pub kept : (n : ℕ) → holds (treeAt policy i) n ≡ false → rights (pathAt policy ws i) n ≡ false → memoryOf ws′ n ≡ memoryOf ws n
   pub moved : Moved ws ws′ items
 
 module _ {policy : Bytes} {ws : Words} {i : ℕ} (h : Stands policy ws i) where
@@ -69,12 +69,12 @@ module _ {policy : Bytes} {ws : Words} {i : ℕ} (h : Stands policy ws i) where
   not-right = standing h .apart .rights i own
 
   -- a write of the leaf's cell
-  pub own-write : {ws₁ ws₂ : Words} → Only i ws₁ ws₂ → (c : Outside) → feeders c ≡ pathAt policy ws i → (p : Run) → within c (view ws₂) p ≡ within c (view ws₁) p
+  pub own-write : {ws₁ ws₂ : Words} → Only i ws₁ ws₂ → (c : Outside) → feeders c ≡ pathAt policy ws i → (p : Run) → within c (memoryOf ws₂) p ≡ within c (memoryOf ws₁) p
   own-write {ws₁} {ws₂} o c ec p =
-      within-same c (view ws₁) (view ws₂)
+      within-same c (memoryOf ws₁) (memoryOf ws₂)
       (λ n e. view-only o n (λ q. true-not-false (subst (λ (gs : List Feeder). rights gs n ≡ true) ec e) (subst (λ (m : ℕ). rights (pathAt policy ws i) m ≡ false) (sym q) not-right))) p
 
-  pub own-kept : {ws₁ ws₂ : Words} → Only i ws₁ ws₂ → (n : ℕ) → holds (treeAt policy i) n ≡ false → view ws₂ n ≡ view ws₁ n
+  pub own-kept : {ws₁ ws₂ : Words} → Only i ws₁ ws₂ → (n : ℕ) → holds (treeAt policy i) n ≡ false → memoryOf ws₂ n ≡ memoryOf ws₁ n
   own-kept o n e = view-only o n (λ q. held-apart (treeAt policy i) own e (sym q))
 
   pub stays : {p : Run} → Reaches policy i ws ws p p
@@ -90,27 +90,27 @@ module _ {policy : Bytes} {ws : Words} {i : ℕ} (h : Stands policy ws i) where
       }
 
   module _ (ph : Phase) where
-    pub begun : {ws₁ : Words} → Begun policy i ph ws ws₁ → Reaches policy i ws ws₁ (ranOf (treeAt policy i) ph (held (treeAt policy i) (view ws))) (leafRun (treeAt policy i) ph (view ws₁))
+    pub begun : {ws₁ : Words} → Begun policy i ph ws ws₁ → Reaches policy i ws ws₁ (ranOf (treeAt policy i) ph (held (treeAt policy i) (memoryOf ws))) (leafRun (treeAt policy i) ph (memoryOf ws₁))
     begun {ws₁} b = record {
       items = b .begun .items;
-      runs = λ c ec. shows-as (shows-from (ap (within c (view ws)) (b .begun .is)) (shows-silent c (view ws) (b .begun .items) (b .begun .quiet) _)) (sym (own-write (b .only) c ec _));
+      runs = λ c ec. shows-as (shows-from (ap (within c (memoryOf ws)) (b .begun .is)) (shows-silent c (memoryOf ws) (b .begun .items) (b .begun .quiet) _)) (sym (own-write (b .only) c ec _));
       kept = λ n e r. own-kept (b .only) n e;
       moved = moved-quiet (low h) (b .only) (b .begun .quiet);
     }
 
     module _ {ws₁ : Words} where
-      pub went : {p : Run} → Reaches policy i ws ws₁ p (leafRun (treeAt policy i) ph (view ws₁)) → {ws₂ : Words} (x : Progress) → WentOn policy i ph ws₁ ws₂ x
+      pub went : {p : Run} → Reaches policy i ws ws₁ p (leafRun (treeAt policy i) ph (memoryOf ws₁)) → {ws₂ : Words} (x : Progress) → WentOn policy i ph ws₁ ws₂ x
           → Reaches policy i ws ws₂ p (cameTo (treeAt policy i) ph ws₂ x)
       went g {ws₂} x w = record {
         items = g .items ++ w .gives .items;
-        runs = λ c ec. shows-as (shows-then (g .runs c ec) (shows-from (ap (within c (view ws₁)) (w .gives .is)) (shows-silent c (view ws₁) (w .gives .items) (w .gives .quiet) _)))
+        runs = λ c ec. shows-as (shows-then (g .runs c ec) (shows-from (ap (within c (memoryOf ws₁)) (w .gives .is)) (shows-silent c (memoryOf ws₁) (w .gives .items) (w .gives .quiet) _)))
             (sym (own-write (w .only) c ec _));
         kept = λ n e r. own-kept (w .only) n e ∙ g .kept n e r;
         moved = moved-then (g .moved) (moved-quiet (low h) (w .only) (w .gives .quiet));
       }
 
       -- its phase is over
-      pub leaf-ends : {u : Bool} → Reaches policy i ws ws₁ (ranOf (treeAt policy i) ph (held (treeAt policy i) (view ws))) (halts (record { state = held (treeAt policy i) (view ws₁); suppressed = u })) → (r : ℕ) → ended r ≡ done u → TurnsAt policy i ph ws ws₁ r
+      pub leaf-ends : {u : Bool} → Reaches policy i ws ws₁ (ranOf (treeAt policy i) ph (held (treeAt policy i) (memoryOf ws))) (halts (record { state = held (treeAt policy i) (memoryOf ws₁); suppressed = u })) → (r : ℕ) → ended r ≡ done u → TurnsAt policy i ph ws ws₁ r
       unfolding GoesOn
       leaf-ends {u} g r e = subst (λ (x : Ended). Turns (pathAt policy ws i) (treeAt policy i) ph ws ws₁ x) (sym e)
           (to-turns (record { runs = λ c ec. g .runs c ec; kept = λ n o q s. g .kept n o q }) (g .moved))
@@ -120,13 +120,13 @@ module _ {policy : Bytes} {ws : Words} {i : ℕ} (h : Stands policy ws i) where
         as-emits : {x : Ended} → ended r ≡ x → Emits (pathAt policy ws i) b ws₁ ws₂ x
         as-emits {x} e = subst (λ (y : Ended). Emits (pathAt policy ws i) b ws₁ ws₂ y) e (subst (λ (fs : List Feeder). Emits fs b ws₁ ws₂ (ended r)) (path-same policy ws ws₁ (g .moved .keeps .tables) i) m)
 
-        pub insert-stopped : p ≡ ranOf (treeAt policy i) ph (held (treeAt policy i) (view ws)) → 2 ≤ r → TurnsAt policy i ph ws ws₂ r
+        pub insert-stopped : p ≡ ranOf (treeAt policy i) ph (held (treeAt policy i) (memoryOf ws)) → 2 ≤ r → TurnsAt policy i ph ws ws₂ r
         unfolding GoesOn
         insert-stopped ep l =
             let e = as-emits (stop-of r l) in
             subst (λ (x : Ended). Turns (pathAt policy ws i) (treeAt policy i) ph ws ws₂ x) (sym (stop-of r l))
             (to-turns (record {
-              runs = λ c ec. stops-map (r - 2) c (view ws₂) _ _ (λ v y. shows-then (shows-from (ap (within c (view ws)) (sym ep)) (g .runs c ec)) y) (e .rose .runs c ec q);
+              runs = λ c ec. stops-map (r - 2) c (memoryOf ws₂) _ _ (λ v y. shows-then (shows-from (ap (within c (memoryOf ws)) (sym ep)) (g .runs c ec)) y) (e .rose .runs c ec q);
               kept = λ n o z s. e .rose .kept n z s ∙ g .kept n o z;
             }) (moved-then (g .moved) (emits-moved e)))
 
@@ -141,7 +141,7 @@ module _ {policy : Bytes} {ws : Words} {i : ℕ} (h : Stands policy ws i) where
             }
 
         -- and the leaf stands where it was
-        pub insert-leaves : r < 2 → view ws₂ i ≡ view ws₁ i
+        pub insert-leaves : r < 2 → memoryOf ws₂ i ≡ memoryOf ws₁ i
         unfolding isStop
         insert-leaves l = as-emits (done-of r l) .rose .kept i not-right refl
 
@@ -151,10 +151,10 @@ module _ {policy : Bytes} {ws : Words} {i : ℕ} (h : Stands policy ws i) where
     leaf-same k m m′ e = subst (λ (t : Tree). leafRun t ph m′ ≡ leafRun t ph m) (sym (tree-leaf (h .passed) i (h .inside) k)) (ap (onward i _ ph) e)
 
     -- and there is less of its run left
-    pub insert-less : kindAt policy i ≡ aLeaf → {p : Run} {ws₁ ws₂ ws₃ : Words} {b : Action} → Reaches policy i ws ws₁ p (leafRun (treeAt policy i) ph (view ws₁)) → WentOn policy i ph ws₁ ws₂ (Insert b)
-        → (r : ℕ) → Emits (pathAt policy ws₂ i) b ws₂ ws₃ (ended r) → r < 2 → itemsLeft (leafRun (treeAt policy i) ph (view ws₃)) < itemsLeft (leafRun (treeAt policy i) ph (view ws₁))
+    pub insert-less : kindAt policy i ≡ aLeaf → {p : Run} {ws₁ ws₂ ws₃ : Words} {b : Action} → Reaches policy i ws ws₁ p (leafRun (treeAt policy i) ph (memoryOf ws₁)) → WentOn policy i ph ws₁ ws₂ (Insert b)
+        → (r : ℕ) → Emits (pathAt policy ws₂ i) b ws₂ ws₃ (ended r) → r < 2 → itemsLeft (leafRun (treeAt policy i) ph (memoryOf ws₃)) < itemsLeft (leafRun (treeAt policy i) ph (memoryOf ws₁))
     insert-less k {ws₁ = ws₁} {ws₂} {ws₃} g w r m l =
-        omega (arith, insert-takes w, ap itemsLeft (leaf-same k (view ws₂) (view ws₃) (insert-leaves (went g _ w) r m l)))
+        omega (arith, insert-takes w, ap itemsLeft (leaf-same k (memoryOf ws₂) (memoryOf ws₃) (insert-leaves (went g _ w) r m l)))
 
 -- a phase's end as the code returns it
 pub byte-ended : (u : Bool) → ended (boolByte u) ≡ done u

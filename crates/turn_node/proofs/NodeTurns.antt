@@ -1,4 +1,4 @@
--- A node that is not asked, one that is over as soon as it is asked, and which kind of node the code has read. Assumes nothing.
+-- A node that is not asked, one that is over as soon as it is asked, and which kind of node the code has read.
 use Prim.Native.Nat.{ℕ, _+_, _<_}
 use native.Mathlib.Omega.{arith}
 use mathlib.Core.Path.{_≡_, refl, sym, ap, _∙_, subst}
@@ -13,13 +13,13 @@ use Rattle.spec_turns.specs.Status.{Status, isRunning, statusOf}
 use Rattle.spec_turns.specs.State.{State, leafOver}
 use Rattle.spec_turns.specs.Turn.{Phase, isAsked, quiet}
 use Rattle.turn_paths.specs.Run.{halts, flat}
-use Rattle.turn_paths.specs.Memory.{Cell, Mem, leafed, held, ranOf}
+use Rattle.turn_paths.specs.Memory.{Cell, Mem, leafWith, held, ranOf}
 use Rattle.turn_paths.specs.Choices.{askedIn}
 use Rattle.turn_paths.specs.Paths.{within, GoesOn}
 use Rattle.turn_paths.proofs.Begin.{asked-in, asked-works, works}
 use Rattle.turn_paths.proofs.PathLaws.{shows-same}
 use Rattle.turn_paths.proofs.TurnLaws.{turned-idle}
-use Rattle.turn_memory.specs.Words.{Words, setPlace, packed, view, Only}
+use Rattle.turn_memory.specs.Words.{Words, setPlace, packed, memoryOf, Only}
 use Rattle.turn_memory.proofs.CellLaws.{celled-packed, view-here, only-set}
 use Rattle.turn_sides.specs.Sides.{kindAt, joinOfKind, joinAt}
 use Rattle.turn_tables.specs.Tables.{pathAt}
@@ -41,51 +41,51 @@ module _ {policy : Bytes} {ws : Words} {i : ℕ} (h : Stands policy ws i) (ph : 
 
   -- ---- whether it is asked, as the code reads it
 
-  asked-as : isAsked (regulated (treeAt policy i)) ph (held (treeAt policy i) (view ws)) ≡ askedIn (getD ws (setPlace + i) 0) ph (view ws i)
+  asked-as : isAsked (regulated (treeAt policy i)) ph (held (treeAt policy i) (memoryOf ws)) ≡ askedIn (getD ws (setPlace + i) 0) ph (memoryOf ws i)
   asked-as =
-      asked-in (regulated t) ph t (view ws) ∙ ap (λ (n : ℕ). askedIn (regulated t) ph (view ws n)) (number-at policy i)
-      ∙ ap (λ (s : ℕ). askedIn s ph (view ws i)) (sym (h .tabled .entered i (h .inside) .set))
+      asked-in (regulated t) ph t (memoryOf ws) ∙ ap (λ (n : ℕ). askedIn (regulated t) ph (memoryOf ws n)) (number-at policy i)
+      ∙ ap (λ (s : ℕ). askedIn s ph (memoryOf ws i)) (sym (h .tabled .entered i (h .inside) .set))
 
-  pub is-asked : {v : Bool} → v ≡ askedIn (getD ws (setPlace + i) 0) ph (view ws i) → v ≡ true → Asked policy ws i ph
+  pub is-asked : {v : Bool} → v ≡ askedIn (getD ws (setPlace + i) 0) ph (memoryOf ws i) → v ≡ true → Asked policy ws i ph
   is-asked e z = asked-as ∙ sym e ∙ z
 
-  pub idle-turn : {v : Bool} → v ≡ askedIn (getD ws (setPlace + i) 0) ph (view ws i) → v ≡ false → TurnsAt policy i ph ws ws 0
+  pub idle-turn : {v : Bool} → v ≡ askedIn (getD ws (setPlace + i) 0) ph (memoryOf ws i) → v ≡ false → TurnsAt policy i ph ws ws 0
   unfolding ends.ended
-  idle-turn e z = to-turns (turned-idle (pathAt policy ws i) t ph (view ws) (asked-as ∙ sym e ∙ z)) moved-none
+  idle-turn e z = to-turns (turned-idle (pathAt policy ws i) t ph (memoryOf ws) (asked-as ∙ sym e ∙ z)) moved-none
 
   -- ---- over at once
 
-  over-turn : {ws′ : Words} (s : Status) → ranOf t ph (held t (view ws)) ≡ halts (record { state = leafOver s; suppressed = false }) → held t (view ws′) ≡ leafOver s
+  over-turn : {ws′ : Words} (s : Status) → ranOf t ph (held t (memoryOf ws)) ≡ halts (record { state = leafOver s; suppressed = false }) → held t (memoryOf ws′) ≡ leafOver s
       → Only i ws ws′ → TurnsAt policy i ph ws ws′ 0
   unfolding ends.ended GoesOn
   over-turn {ws′} s e f o =
       to-turns (record {
-        runs = λ c ec. shows-same (ap (within c (view ws)) (e ∙ ap (λ (x : State). halts (record { state = x; suppressed = false })) (sym f)) ∙ sym (own-write h o c ec _));
+        runs = λ c ec. shows-same (ap (within c (memoryOf ws)) (e ∙ ap (λ (x : State). halts (record { state = x; suppressed = false })) (sym f)) ∙ sym (own-write h o c ec _));
         kept = λ n z r q. own-kept h o n z;
       }) (moved-own (low h) moved-none o)
 
   module _ (a : Asked policy ws i ph) {ws′ : Words} {r : ℕ} (er : r ≡ 0) where
     -- a node with nothing beneath it, whose phase only gives it this status
     over-with : (u : Tree) (n : ℕ) → n < 256 → isRunning (statusOf n) ≡ false → t ≡ u
-        → (isAsked (regulated u) ph (held u (view ws)) ≡ true → ranOf u ph (held u (view ws)) ≡ halts (record { state = leafOver (statusOf n); suppressed = false }))
-        → ((m : Mem) → held u m ≡ leafed (m i .status) (m i .asked) 0 0) → ws′ ≡ set ws i (packed n 0 0 0) → TurnsAt policy i ph ws ws′ r
-    unfolding leafed
+        → (isAsked (regulated u) ph (held u (memoryOf ws)) ≡ true → ranOf u ph (held u (memoryOf ws)) ≡ halts (record { state = leafOver (statusOf n); suppressed = false }))
+        → ((m : Mem) → held u m ≡ leafWith (m i .status) (m i .asked) 0 0) → ws′ ≡ set ws i (packed n 0 0 0) → TurnsAt policy i ph ws ws′ r
+    unfolding leafWith
     over-with u n small decided e runs bare w = subst (λ (q : ℕ). TurnsAt policy i ph ws ws′ q) (sym er) (over-turn (statusOf n)
-        (subst (λ (x : Tree). isAsked (regulated x) ph (held x (view ws)) ≡ true → ranOf x ph (held x (view ws)) ≡ halts (record { state = leafOver (statusOf n); suppressed = false })) (sym e) runs a)
-        (subst (λ (x : Tree). held x (view ws′) ≡ leafOver (statusOf n)) (sym e) (bare (view ws′) ∙ ap (λ (c : Cell). leafed (c .status) (c .asked) 0 0) cell-now ∙ rw (decided, leafed)))
+        (subst (λ (x : Tree). isAsked (regulated x) ph (held x (memoryOf ws)) ≡ true → ranOf x ph (held x (memoryOf ws)) ≡ halts (record { state = leafOver (statusOf n); suppressed = false })) (sym e) runs a)
+        (subst (λ (x : Tree). held x (memoryOf ws′) ≡ leafOver (statusOf n)) (sym e) (bare (memoryOf ws′) ∙ ap (λ (c : Cell). leafWith (c .status) (c .asked) 0 0) cell-now ∙ rw (decided, leafWith)))
         (subst (Only i ws) (sym w) (only-set ws i (packed n 0 0 0))))
       where
-        cell-now : view ws′ i ≡ record { status = statusOf n; asked = eqb 0 1; offset = 0; counter = 0 }
+        cell-now : memoryOf ws′ i ≡ record { status = statusOf n; asked = eqb 0 1; offset = 0; counter = 0 }
         cell-now =
-            ap (λ (x : Words). view x i) w ∙ view-here ws i (packed n 0 0 0) (low h) (omega (arith, low h, h .sized)) ∙ celled-packed n 0 0 0 small (omega arith) (omega arith) (omega arith)
+            ap (λ (x : Words). memoryOf x i) w ∙ view-here ws i (packed n 0 0 0) (low h) (omega (arith, low h, h .sized)) ∙ celled-packed n 0 0 0 small (omega arith) (omega arith) (omega arith)
 
     pub trivial-turn : t ≡ trivial i → ws′ ≡ set ws i (packed 2 0 0 0) → TurnsAt policy i ph ws ws′ r
     unfolding works quiet flat held statusOf isRunning
-    trivial-turn e w = over-with (trivial i) 2 (omega arith) refl e (asked-works (trivial i) ph (held (trivial i) (view ws))) (λ m. refl) w
+    trivial-turn e w = over-with (trivial i) 2 (omega arith) refl e (asked-works (trivial i) ph (held (trivial i) (memoryOf ws))) (λ m. refl) w
 
     pub unsatisfiable-turn : t ≡ unsatisfiable i → ws′ ≡ set ws i (packed 5 0 0 0) → TurnsAt policy i ph ws ws′ r
     unfolding works quiet flat held statusOf isRunning
-    unsatisfiable-turn e w = over-with (unsatisfiable i) 5 (omega arith) refl e (asked-works (unsatisfiable i) ph (held (unsatisfiable i) (view ws))) (λ m. refl) w
+    unsatisfiable-turn e w = over-with (unsatisfiable i) 5 (omega arith) refl e (asked-works (unsatisfiable i) ph (held (unsatisfiable i) (memoryOf ws))) (λ m. refl) w
 
 -- ---- the kind that the code has read
 

@@ -1,4 +1,4 @@
--- The nodes that an insert from node n comes to are those of the file: each stands beneath the rest of the way. Assumes nothing.
+-- The nodes that an insert from node n comes to are those of the file: each stands beneath the rest of the way.
 use Prim.Native.Nat.{ℕ, _+_, _≤_, _<_}
 use native.Mathlib.Omega.{arith}
 use mathlib.Core.Path.{_≡_, refl, sym, ap, _∙_, subst}

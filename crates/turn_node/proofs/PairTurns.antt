@@ -1,4 +1,4 @@
--- A phase of a node with two sides, from its sides' phases, where the file has it. Assumes nothing.
+-- A phase of a node with two sides, from its sides' phases, where the file has it.
 use Prim.Native.Nat.{ℕ, _-_, _≤_, _<_}
 use native.Mathlib.Omega.{arith}
 use mathlib.Core.Path.{_≡_, refl, sym, ap, ap₂, _∙_, subst, subst₂}
@@ -35,7 +35,7 @@ use Rattle.turn_paths.proofs.TurnLaws.{
   seq-first-over,
   seq-first-on,
 }
-use Rattle.turn_memory.specs.Words.{Words, view}
+use Rattle.turn_memory.specs.Words.{Words, memoryOf}
 use Rattle.turn_memory.specs.Phases.{afterNumber, phaseOf}
 use Rattle.turn_sides.specs.Sides.{kindAt, leftAt, rightAt, joinAt}
 use Rattle.turn_sides.proofs.Nodes.{numbered-here}
@@ -101,8 +101,8 @@ module _ {policy : Bytes} {ws : Words} {i : ℕ} {w : Way} (h : Stands policy ws
   as-node e t = re-turned refl (sym (pair-tree h k)) e t
 
   asked-node : (ph : Phase) → Asked policy ws i ph → isAsked (regulated (node w (joinAt policy i) i (treeAt policy (leftAt policy i)) (treeAt policy (rightAt policy i)))) ph
-      (held (node w (joinAt policy i) i (treeAt policy (leftAt policy i)) (treeAt policy (rightAt policy i))) (view ws)) ≡ true
-  asked-node ph a = subst (λ (t : Tree). isAsked (regulated t) ph (held t (view ws)) ≡ true) (pair-tree h k) a
+      (held (node w (joinAt policy i) i (treeAt policy (leftAt policy i)) (treeAt policy (rightAt policy i))) (memoryOf ws)) ≡ true
+  asked-node ph a = subst (λ (t : Tree). isAsked (regulated t) ph (held t (memoryOf ws)) ≡ true) (pair-tree h k) a
 
 -- ---- parallel
 
@@ -115,7 +115,7 @@ module _ {policy : Bytes} {ws : Words} {i : ℕ} (h : Stands policy ws i) (k : k
   left-stops g =
       let t₁ = left-side (stop-of n g) in
       as-node h k (sym (stop-of n g))
-      (to-turns (par-stop-left (joinAt policy i) (numbered h k) (pathAt policy ws i) (apart-node h k) ph (view ws) (asked-node h k ph a) (t₁ .turned)) (turns-moved t₁))
+      (to-turns (par-stop-left (joinAt policy i) (numbered h k) (pathAt policy ws i) (apart-node h k) ph (memoryOf ws) (asked-node h k ph a) (t₁ .turned)) (turns-moved t₁))
 
   module _ (g : n < 2) {y : ℕ} (m : ℕ) {ws₂ : Words} (ey : y ≡ rightAt policy i) (u : TurnsAt policy y ph ws₁ ws₂ m) where
     pub right-stops : 2 ≤ m → TurnsAt policy i ph ws ws₂ m
@@ -123,7 +123,7 @@ module _ {policy : Bytes} {ws : Words} {i : ℕ} (h : Stands policy ws i) (k : k
         let t₁ = left-side (done-of n g) in
         let t₂ = at-right h k m ey (t₁ .keeps) (stop-of m f) u in
         as-node h k (sym (stop-of m f))
-        (to-turns (par-stop-right (joinAt policy i) (numbered h k) (pathAt policy ws i) (apart-node h k) ph (view ws) (asked-node h k ph a) (t₁ .turned) (t₂ .turned))
+        (to-turns (par-stop-right (joinAt policy i) (numbered h k) (pathAt policy ws i) (apart-node h k) ph (memoryOf ws) (asked-node h k ph a) (t₁ .turned) (t₂ .turned))
         (moved-then (turns-moved t₁) (turns-moved t₂)))
 
     pub both-end : m < 2 → (q : ℕ) {ws₃ : Words} → ParEnd policy i ph ws₂ ws₃ n m q → TurnsAt policy i ph ws ws₃ q
@@ -131,7 +131,7 @@ module _ {policy : Bytes} {ws : Words} {i : ℕ} (h : Stands policy ws i) (k : k
         let t₁ = left-side (done-of n g) in
         let t₂ = at-right h k m ey (t₁ .keeps) (done-of m f) u in
         as-node h k (sym (p .says))
-        (to-turns (par-done (joinAt policy i) (numbered h k) (pathAt policy ws i) (apart-node h k) ph (view ws) (asked-node h k ph a) (t₁ .turned) (t₂ .turned) (by-numbers h k (p .settled)))
+        (to-turns (par-done (joinAt policy i) (numbered h k) (pathAt policy ws i) (apart-node h k) ph (memoryOf ws) (asked-node h k ph a) (t₁ .turned) (t₂ .turned) (by-numbers h k (p .settled)))
         (moved-own (low h) (moved-then (turns-moved t₁) (turns-moved t₂)) (p .only)))
 
 -- ---- sequential
@@ -144,7 +144,7 @@ module _ {policy : Bytes} {ws : Words} {i : ℕ} (h : Stands policy ws i) (k : S
       re-turned (ap (pathAt policy ws₁) q ∙ path-same policy ws ws₁ (kp .tables) (leftAt policy i) ∙ path-left h k) (ap (treeAt policy) q) e t
 
   -- the node is at its left side, whose phase was stopped
-  left-stopped : {ph : Phase} {ws₁ ws₂ : Words} {xs : List Item} → AtLeft (joinAt policy i) (numbered h k) (pathAt policy ws i) ph (view ws) (view ws₁) xs → Moved ws ws₁ xs
+  left-stopped : {ph : Phase} {ws₁ ws₂ : Words} {xs : List Item} → AtLeft (joinAt policy i) (numbered h k) (pathAt policy ws i) ph (memoryOf ws) (memoryOf ws₁) xs → Moved ws ws₁ xs
       → {x : ℕ} (n : ℕ) → x ≡ leftAt policy i → 2 ≤ n → TurnsAt policy x ph ws₁ ws₂ n → (q : ℕ) → Caught n i q → TurnsAt policy i ph ws ws₂ q
   unfolding ended
   left-stopped {ph} {ws₁} {ws₂} {xs} at mv {x} n ex g t q c =
@@ -161,15 +161,15 @@ module _ {policy : Bytes} {ws : Words} {i : ℕ} (h : Stands policy ws i) (k : S
           (to-turns (seq-stopped-above (joinAt policy i) (numbered h k) (pathAt policy ws i) at (ne-eqb i (n - 2) (λ e. f (sym e))) (t₁ .turned)) (moved-then mv (turns-moved t₁)))
 
   -- it begins at its left side, before the verdict and at closing
-  begins : (p : ℕ) → (p ≡ afterNumber → ⊥) → Asked policy ws i (phaseOf p) → AtLeft (joinAt policy i) (numbered h k) (pathAt policy ws i) (phaseOf p) (view ws) (view ws) []
+  begins : (p : ℕ) → (p ≡ afterNumber → ⊥) → Asked policy ws i (phaseOf p) → AtLeft (joinAt policy i) (numbered h k) (pathAt policy ws i) (phaseOf p) (memoryOf ws) (memoryOf ws) []
   begins p g a = on (phaseOf p) (not-after p g) (asked-node h k (phaseOf p) a)
     where
       on : (ph : Phase) → (ph ≡ after → ⊥) → isAsked (regulated (node sequential (joinAt policy i) i (treeAt policy (leftAt policy i)) (treeAt policy (rightAt policy i)))) ph
-          (held (node sequential (joinAt policy i) i (treeAt policy (leftAt policy i)) (treeAt policy (rightAt policy i))) (view ws)) ≡ true
-          → AtLeft (joinAt policy i) (numbered h k) (pathAt policy ws i) ph (view ws) (view ws) []
-      on (before b) f z = starts-before (joinAt policy i) (numbered h k) (pathAt policy ws i) b (view ws) z
+          (held (node sequential (joinAt policy i) i (treeAt policy (leftAt policy i)) (treeAt policy (rightAt policy i))) (memoryOf ws)) ≡ true
+          → AtLeft (joinAt policy i) (numbered h k) (pathAt policy ws i) ph (memoryOf ws) (memoryOf ws) []
+      on (before b) f z = starts-before (joinAt policy i) (numbered h k) (pathAt policy ws i) b (memoryOf ws) z
       on after f z = absurd (f refl)
-      on closing f z = starts-closing (joinAt policy i) (numbered h k) (pathAt policy ws i) (view ws) z
+      on closing f z = starts-closing (joinAt policy i) (numbered h k) (pathAt policy ws i) (memoryOf ws) z
 
   -- ---- the left side first
 
@@ -181,8 +181,8 @@ module _ {policy : Bytes} {ws : Words} {i : ℕ} (h : Stands policy ws i) (k : S
     first-then f q {ws₂} e =
         let t₁ = at-left n ex keeps-none (done-of n f) t in
         let fs = path-same policy ws ws₁ (t .keeps .tables) i in
-        as-node h k refl (to-turns (subst (λ (gs : List Feeder). Turned gs (node sequential (joinAt policy i) i (treeAt policy (leftAt policy i)) (treeAt policy (rightAt policy i))) (phaseOf p) (view ws) (view ws₂) (t₁ .items ++ e .items) (ended q)) fs
-        (e .ends (numbered h k) (subst (λ (gs : List Feeder). LeftOver (joinAt policy i) (numbered h k) gs (phaseOf p) (view ws) (view ws₁) (t₁ .items) (eqb n 1)) (sym fs)
+        as-node h k refl (to-turns (subst (λ (gs : List Feeder). Turned gs (node sequential (joinAt policy i) i (treeAt policy (leftAt policy i)) (treeAt policy (rightAt policy i))) (phaseOf p) (memoryOf ws) (memoryOf ws₂) (t₁ .items ++ e .items) (ended q)) fs
+        (e .ends (numbered h k) (subst (λ (gs : List Feeder). LeftOver (joinAt policy i) (numbered h k) gs (phaseOf p) (memoryOf ws) (memoryOf ws₁) (t₁ .items) (eqb n 1)) (sym fs)
         (seq-left (joinAt policy i) (numbered h k) (pathAt policy ws i) (begins p g a) (t₁ .turned))))) (moved-then (turns-moved t₁) (record { told = e .told; keeps = e .keeps })))
 
   -- ---- the right side first
@@ -195,24 +195,24 @@ module _ {policy : Bytes} {ws : Words} {i : ℕ} (h : Stands policy ws i) (k : S
     right-first-stopped g =
         let t₁ = at-right h k m ey keeps-none (stop-of m g) t in
         as-node h k (sym (stop-of m g))
-        (to-turns (seq-first-stopped (joinAt policy i) (numbered h k) (pathAt policy ws i) (apart-node h k) (view ws) (asked-node h k after a) (t₁ .turned)) (turns-moved t₁))
+        (to-turns (seq-first-stopped (joinAt policy i) (numbered h k) (pathAt policy ws i) (apart-node h k) (memoryOf ws) (asked-node h k after a) (t₁ .turned)) (turns-moved t₁))
 
     module _ (g : m < 2) where
-      pub right-first-over : isRunning (joined (joinAt policy i) (view ws₁ (leftAt policy i) .status) (view ws₁ (rightAt policy i) .status)) ≡ false
+      pub right-first-over : isRunning (joined (joinAt policy i) (memoryOf ws₁ (leftAt policy i) .status) (memoryOf ws₁ (rightAt policy i) .status)) ≡ false
           → (n q : ℕ) {ws₂ : Words} → SeqEnd policy i after ws₁ ws₂ n q → TurnsAt policy i after ws ws₂ q
       unfolding endSup stillAsked
       right-first-over e n q p =
           let t₁ = at-right h k m ey keeps-none (done-of m g) t in
           as-node h k (sym (p .says))
-          (to-turns (seq-first-over (joinAt policy i) (numbered h k) (pathAt policy ws i) (apart-node h k) (view ws) (asked-node h k after a) (t₁ .turned) (status-by-numbers h k (view ws₁) e) (by-numbers h k (p .settled)))
+          (to-turns (seq-first-over (joinAt policy i) (numbered h k) (pathAt policy ws i) (apart-node h k) (memoryOf ws) (asked-node h k after a) (t₁ .turned) (status-by-numbers h k (memoryOf ws₁) e) (by-numbers h k (p .settled)))
           (moved-own (low h) (turns-moved t₁) (p .only)))
 
-      module _ (e : isRunning (joined (joinAt policy i) (view ws₁ (leftAt policy i) .status) (view ws₁ (rightAt policy i) .status)) ≡ true) {x : ℕ} (n : ℕ) {ws₂ : Words} (ex : x ≡ leftAt policy i)
+      module _ (e : isRunning (joined (joinAt policy i) (memoryOf ws₁ (leftAt policy i) .status) (memoryOf ws₁ (rightAt policy i) .status)) ≡ true) {x : ℕ} (n : ℕ) {ws₂ : Words} (ex : x ≡ leftAt policy i)
           (u : TurnsAt policy x after ws₁ ws₂ n) where
         pub then-left-stopped : 2 ≤ n → (q : ℕ) → Caught n i q → TurnsAt policy i after ws ws₂ q
         then-left-stopped f q c =
             let t₁ = at-right h k m ey keeps-none (done-of m g) t in
-            left-stopped (seq-first-on (joinAt policy i) (numbered h k) (pathAt policy ws i) (apart-node h k) (view ws) (asked-node h k after a) (t₁ .turned) (status-by-numbers h k (view ws₁) e))
+            left-stopped (seq-first-on (joinAt policy i) (numbered h k) (pathAt policy ws i) (apart-node h k) (memoryOf ws) (asked-node h k after a) (t₁ .turned) (status-by-numbers h k (memoryOf ws₁) e))
             (turns-moved t₁) n ex f u q c
 
         pub then-left-ends : n < 2 → (q : ℕ) {ws₃ : Words} → SeqEnd policy i after ws₂ ws₃ n q → TurnsAt policy i after ws ws₃ q
@@ -220,7 +220,7 @@ module _ {policy : Bytes} {ws : Words} {i : ℕ} (h : Stands policy ws i) (k : S
         then-left-ends f q p =
             let t₁ = at-right h k m ey keeps-none (done-of m g) t in
             let t₂ = at-left n ex (t₁ .keeps) (done-of n f) u in
-            let at = seq-first-on (joinAt policy i) (numbered h k) (pathAt policy ws i) (apart-node h k) (view ws) (asked-node h k after a) (t₁ .turned) (status-by-numbers h k (view ws₁) e) in
+            let at = seq-first-on (joinAt policy i) (numbered h k) (pathAt policy ws i) (apart-node h k) (memoryOf ws) (asked-node h k after a) (t₁ .turned) (status-by-numbers h k (memoryOf ws₁) e) in
             as-node h k (sym (p .says))
             (to-turns (seq-over (joinAt policy i) (numbered h k) (pathAt policy ws i) (apart-node h k) (seq-left (joinAt policy i) (numbered h k) (pathAt policy ws i) at (t₂ .turned)) refl (by-numbers h k (p .settled)))
             (moved-own (low h) (moved-then (turns-moved t₁) (turns-moved t₂)) (p .only)))
@@ -228,29 +228,29 @@ module _ {policy : Bytes} {ws : Words} {i : ℕ} (h : Stands policy ws i) (k : S
   -- ---- after the left side's end
 
   -- a child by its number in the file, and by the number that the tree has for it
-  numbers-on : (ph : Phase) (u : Bool) {v : Bool} → goesOn ph (isRunning (joined (joinAt policy i) (view ws (leftAt policy i) .status) (view ws (rightAt policy i) .status))) u ≡ v
-      → goesOn ph (isRunning (joined (joinAt policy i) (view ws (numberOf (treeAt policy (leftAt policy i))) .status) (view ws (numberOf (treeAt policy (rightAt policy i))) .status))) u ≡ v
-  numbers-on ph u e = ap₂ (λ (a b : ℕ). goesOn ph (isRunning (joined (joinAt policy i) (view ws a .status) (view ws b .status))) u) (number-at policy (leftAt policy i)) (number-at policy (rightAt policy i)) ∙ e
+  numbers-on : (ph : Phase) (u : Bool) {v : Bool} → goesOn ph (isRunning (joined (joinAt policy i) (memoryOf ws (leftAt policy i) .status) (memoryOf ws (rightAt policy i) .status))) u ≡ v
+      → goesOn ph (isRunning (joined (joinAt policy i) (memoryOf ws (numberOf (treeAt policy (leftAt policy i))) .status) (memoryOf ws (numberOf (treeAt policy (rightAt policy i))) .status))) u ≡ v
+  numbers-on ph u e = ap₂ (λ (a b : ℕ). goesOn ph (isRunning (joined (joinAt policy i) (memoryOf ws a .status) (memoryOf ws b .status))) u) (number-at policy (leftAt policy i)) (number-at policy (rightAt policy i)) ∙ e
 
-  pub left-over : (ph : Phase) (n : ℕ) → goesOn ph (isRunning (joined (joinAt policy i) (view ws (leftAt policy i) .status) (view ws (rightAt policy i) .status))) (eqb n 1) ≡ false
+  pub left-over : (ph : Phase) (n : ℕ) → goesOn ph (isRunning (joined (joinAt policy i) (memoryOf ws (leftAt policy i) .status) (memoryOf ws (rightAt policy i) .status))) (eqb n 1) ≡ false
       → (q : ℕ) {ws₁ : Words} → SeqEnd policy i ph ws ws₁ n q → LeftEnds policy i ph ws ws₁ (eqb n 1) (ended q)
   unfolding letsIn
   left-over ph n e q {ws₁} p = record {
     items = [];
-    ends = λ sd {m₀} {xs} lo. subst₂ (λ (ys : List Item) (z : Ended). Turned (pathAt policy ws i) (node sequential (joinAt policy i) i (treeAt policy (leftAt policy i)) (treeAt policy (rightAt policy i))) ph m₀ (view ws₁) ys z)
+    ends = λ sd {m₀} {xs} lo. subst₂ (λ (ys : List Item) (z : Ended). Turned (pathAt policy ws i) (node sequential (joinAt policy i) i (treeAt policy (leftAt policy i)) (treeAt policy (rightAt policy i))) ph m₀ (memoryOf ws₁) ys z)
         (sym (append-nil xs)) (sym (p .says))
         (seq-over (joinAt policy i) sd (pathAt policy ws i) (apart-node h k) lo (numbers-on ph (eqb n 1) e) (by-numbers h k (p .settled)));
     told = moved-own (low h) moved-none (p .only) .told;
     keeps = keeps-only (low h) (p .only);
   }
 
-  module _ (ph : Phase) (n : ℕ) (e : goesOn ph (isRunning (joined (joinAt policy i) (view ws (leftAt policy i) .status) (view ws (rightAt policy i) .status))) (eqb n 1) ≡ true)
+  module _ (ph : Phase) (n : ℕ) (e : goesOn ph (isRunning (joined (joinAt policy i) (memoryOf ws (leftAt policy i) .status) (memoryOf ws (rightAt policy i) .status))) (eqb n 1) ≡ true)
       {y : ℕ} (m : ℕ) {ws₁ : Words} (ey : y ≡ rightAt policy i) (t : TurnsAt policy y ph ws ws₁ m) where
     pub own-stopped : 2 ≤ m → LeftEnds policy i ph ws ws₁ (eqb n 1) (ended m)
     own-stopped g =
         let t₁ = at-right h k m ey keeps-none (stop-of m g) t in record {
           items = t₁ .items;
-          ends = λ sd {m₀} {xs} lo. subst (λ (z : Ended). Turned (pathAt policy ws i) (node sequential (joinAt policy i) i (treeAt policy (leftAt policy i)) (treeAt policy (rightAt policy i))) ph m₀ (view ws₁) (xs ++ t₁ .items) z)
+          ends = λ sd {m₀} {xs} lo. subst (λ (z : Ended). Turned (pathAt policy ws i) (node sequential (joinAt policy i) i (treeAt policy (leftAt policy i)) (treeAt policy (rightAt policy i))) ph m₀ (memoryOf ws₁) (xs ++ t₁ .items) z)
               (sym (stop-of m g)) (seq-own-stopped (joinAt policy i) sd (pathAt policy ws i) (apart-node h k) lo (numbers-on ph (eqb n 1) e) (t₁ .turned));
           told = t₁ .told;
           keeps = t₁ .keeps;
@@ -261,7 +261,7 @@ module _ {policy : Bytes} {ws : Words} {i : ℕ} (h : Stands policy ws i) (k : S
         let t₁ = at-right h k m ey keeps-none (done-of m g) t in
         let mv = moved-own (low h) (turns-moved t₁) (p .only) in record {
           items = t₁ .items;
-          ends = λ sd {m₀} {xs} lo. subst (λ (z : Ended). Turned (pathAt policy ws i) (node sequential (joinAt policy i) i (treeAt policy (leftAt policy i)) (treeAt policy (rightAt policy i))) ph m₀ (view ws₂) (xs ++ t₁ .items) z)
+          ends = λ sd {m₀} {xs} lo. subst (λ (z : Ended). Turned (pathAt policy ws i) (node sequential (joinAt policy i) i (treeAt policy (leftAt policy i)) (treeAt policy (rightAt policy i))) ph m₀ (memoryOf ws₂) (xs ++ t₁ .items) z)
               (sym (p .says)) (seq-own (joinAt policy i) sd (pathAt policy ws i) (apart-node h k) lo (numbers-on ph (eqb n 1) e) (t₁ .turned) (by-numbers h k (p .settled)));
           told = mv .told;
           keeps = mv .keeps;

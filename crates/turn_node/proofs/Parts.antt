@@ -1,4 +1,4 @@
--- What a part of a phase has told and kept, and one part after another. Assumes nothing.
+-- What a part of a phase has told and kept, and one part after another.
 use Prim.Native.Nat.{ℕ, zero, suc, _-_, _≤_, _<_}
 use native.Mathlib.Omega.{arith}
 use mathlib.Core.Path.{_≡_, refl, sym, ap, _∙_, subst}
@@ -10,7 +10,7 @@ use Rattle.spec_turns.specs.Process.{Item, ran, lets, sups, accepts, suppresses
 use Rattle.spec_turns.specs.Turn.{Phase}
 use Rattle.turn_paths.specs.Run.{silent, AllSilent}
 use Rattle.turn_paths.specs.Paths.{Feeder, Ended, done, stopped, Turned, Rose}
-use Rattle.turn_memory.specs.Words.{Words, view, Only}
+use Rattle.turn_memory.specs.Words.{Words, memoryOf, Only}
 use Rattle.turn_memory.specs.Told.{Told}
 use Rattle.turn_memory.proofs.ToldLaws.{told-none, told-then}
 use Rattle.turn_ends.specs.Ends.{ended}
@@ -97,11 +97,11 @@ moved-own {ws′ = ws′} {xs} {ws₀} l m o = record {
 pub turns-moved : {fs : List Feeder} {t : Tree} {ph : Phase} {ws ws′ : Words} {x : Ended} → (h : Turns fs t ph ws ws′ x) → Moved ws ws′ (h .items)
 turns-moved h = record { told = h .told; keeps = h .keeps }
 
-pub to-turns : {fs : List Feeder} {t : Tree} {ph : Phase} {ws ws′ : Words} {xs : List Item} {x : Ended} → Turned fs t ph (view ws) (view ws′) xs x → Moved ws ws′ xs → Turns fs t ph ws ws′ x
+pub to-turns : {fs : List Feeder} {t : Tree} {ph : Phase} {ws ws′ : Words} {xs : List Item} {x : Ended} → Turned fs t ph (memoryOf ws) (memoryOf ws′) xs x → Moved ws ws′ xs → Turns fs t ph ws ws′ x
 to-turns {xs = xs} h m = record { items = xs; turned = h; told = m .told; keeps = m .keeps }
 
 pub emits-moved : {fs : List Feeder} {b : Action} {ws ws′ : Words} {x : Ended} → (h : Emits fs b ws ws′ x) → Moved ws ws′ (h .items)
 emits-moved h = record { told = h .told; keeps = h .keeps }
 
-pub to-emits : {fs : List Feeder} {b : Action} {ws ws′ : Words} {xs : List Item} {x : Ended} → Rose fs b (view ws) (view ws′) xs x → Moved ws ws′ xs → Emits fs b ws ws′ x
+pub to-emits : {fs : List Feeder} {b : Action} {ws ws′ : Words} {xs : List Item} {x : Ended} → Rose fs b (memoryOf ws) (memoryOf ws′) xs x → Moved ws ws′ xs → Emits fs b ws ws′ x
 to-emits {xs = xs} h m = record { items = xs; rose = h; told = m .told; keeps = m .keeps }

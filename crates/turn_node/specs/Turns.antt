@@ -1,4 +1,4 @@
--- The functions of the turn: what they ask and what they promise, where a node stands in the file's tree. Assumes nothing.
+-- The functions of the turn: what they ask and what they promise, where a node stands in the file's tree.
 use Prim.Native.Nat.{ℕ, suc, _+_, _≤_, _<_}
 use mathlib.Core.Path.{_≡_}
 use mathlib.Core.Bool.{Bool}
@@ -14,7 +14,7 @@ use Rattle.turn_paths.specs.Memory.{Mem}
 use Rattle.turn_paths.specs.Paths.{Feeder, Ended, done, stopped, Clear, Turned, Rose, LeftOver}
 use Rattle.turn_paths.specs.Beneath.{height, size, ahead}
 use Rattle.turn_paths.specs.Rising.{Half, Rising, Owes}
-use Rattle.turn_memory.specs.Words.{Words, view}
+use Rattle.turn_memory.specs.Words.{Words, memoryOf}
 use Rattle.turn_memory.specs.Told.{Told}
 use Rattle.turn_sides.specs.Sides.{leftAt, rightAt, joinAt}
 use Rattle.turn_tables.specs.Tables.{asFeeder, pathAt}
@@ -36,7 +36,7 @@ letsIn (suppresses a ∷ xs) = letsIn xs
 -- A tree's phase beneath these nodes was run: these items were seen at the root, their inserts were told, and so it ended.
 pub record Turns (fs : List Feeder) (t : Tree) (ph : Phase) (ws ws′ : Words) (x : Ended) : Type 0 where
   pub items : List Item
-  pub turned : Turned fs t ph (view ws) (view ws′) items x
+  pub turned : Turned fs t ph (memoryOf ws) (memoryOf ws′) items x
   pub told : Told ws ws′ (letsIn items)
   pub keeps : Keeps ws ws′
 
@@ -49,7 +49,7 @@ TurnsAt policy i ph ws ws′ r = Turns (pathAt policy ws i) (treeAt policy i) ph
 -- An insert from beneath these nodes has gone its way, up and down again.
 pub record Emits (fs : List Feeder) (b : Action) (ws ws′ : Words) (x : Ended) : Type 0 where
   pub items : List Item
-  pub rose : Rose fs b (view ws) (view ws′) items x
+  pub rose : Rose fs b (memoryOf ws) (memoryOf ws′) items x
   pub told : Told ws ws′ (letsIn items)
   pub keeps : Keeps ws ws′
 
@@ -70,7 +70,7 @@ pub record Feeds (policy : Bytes) (ws : Words) (n k : ℕ) : Type 0 where
 pub record Owing (fs : List Feeder) (b : Action) (ws ws′ : Words) (n top fed : ℕ) : Type 0 where
   pub items : List Item
   pub owed : List ℕ
-  pub owes : Owes b fs (view ws) (view ws′) items owed
+  pub owes : Owes b fs (memoryOf ws) (memoryOf ws′) items owed
   pub ascends : Ascends n top owed
   pub members : (q : ℕ) → top ≤ q → has fed q ≡ among q owed
   pub told : Told ws ws′ (letsIn items)
@@ -89,8 +89,8 @@ Settling b fs m₀ m xs ns (stopped q) = Rose fs b m₀ m xs (stopped q)
 pub record Settles (policy : Bytes) (i : ℕ) (ws ws′ : Words) (x : Ended) : Type 0 where
   pub items : List Item
   pub settles : {b : Action} {fs : List Feeder} {m₀ m₁ : Mem} {xs ys : List Item} {ns : List ℕ} → Clear fs
-      → Rising b fs m₀ (asFeeder policy i ∷ pathAt policy ws i) m₁ xs ns → Half (asFeeder policy i) (pathAt policy ws i) b m₁ (view ws) ys
-      → Settling b fs m₀ (view ws′) ((xs ++ ys) ++ items) ns x
+      → Rising b fs m₀ (asFeeder policy i ∷ pathAt policy ws i) m₁ xs ns → Half (asFeeder policy i) (pathAt policy ws i) b m₁ (memoryOf ws) ys
+      → Settling b fs m₀ (memoryOf ws′) ((xs ++ ys) ++ items) ns x
   pub told : Told ws ws′ (letsIn items)
   pub keeps : Keeps ws ws′
 
@@ -99,7 +99,7 @@ pub record Settles (policy : Bytes) (i : ℕ) (ws ws′ : Words) (x : Ended) : T
 pub record LeftEnds (policy : Bytes) (i : ℕ) (ph : Phase) (ws ws′ : Words) (u : Bool) (x : Ended) : Type 0 where
   pub items : List Item
   pub ends : (sd : Numbered i (treeAt policy (leftAt policy i)) (treeAt policy (rightAt policy i))) {m₀ : Mem} {xs : List Item}
-      → LeftOver (joinAt policy i) sd (pathAt policy ws i) ph m₀ (view ws) xs u
-      → Turned (pathAt policy ws i) (node sequential (joinAt policy i) i (treeAt policy (leftAt policy i)) (treeAt policy (rightAt policy i))) ph m₀ (view ws′) (xs ++ items) x
+      → LeftOver (joinAt policy i) sd (pathAt policy ws i) ph m₀ (memoryOf ws) xs u
+      → Turned (pathAt policy ws i) (node sequential (joinAt policy i) i (treeAt policy (leftAt policy i)) (treeAt policy (rightAt policy i))) ph m₀ (memoryOf ws′) (xs ++ items) x
   pub told : Told ws ws′ (letsIn items)
   pub keeps : Keeps ws ws′

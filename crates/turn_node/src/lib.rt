@@ -27,24 +27,25 @@ use turn_ends::par_end;
 use turn_ends::reread;
 use turn_ends::seq_end;
 use turn_leaf::Progress;
-use turn_memory::say;
+use turn_memory::AFTER;
+use turn_memory::WORDS;
+use turn_memory::let_out;
 use turn_place::begin_leaf;
 use turn_place::lets_on;
 use turn_place::run_leaf;
 use turn_place::taker;
-use turn_sides::AFTER;
-use turn_sides::ENDED;
-use turn_sides::HALTED;
 use turn_sides::goes_on;
 use turn_sides::is_asked;
-use turn_sides::is_running;
 use turn_sides::joined_at;
 use turn_sides::left_of;
 use turn_sides::right_of;
+use turn_state::ENDED;
+use turn_state::HALTED;
+use turn_state::is_running;
 use turn_tables::NONE;
 
 // A node's phase: only a node that is asked has one.
-pub fn turn(policy: &[u8], mem: &mut [u64; 157], node: usize, phase: u8) -> usize
+pub fn turn(policy: &[u8], mem: &mut [u64; WORDS], node: usize, phase: u8) -> usize
     requires { ⌜ Stands (now policy) (now mem) node ⌝ }
     ensures { λ r. ⌜ TurnsAt (now (policy .entry)) node (phaseOf phase) (now (mem .entry)) (now (mem .exit)) r ⌝ }
 {
@@ -55,7 +56,7 @@ pub fn turn(policy: &[u8], mem: &mut [u64; 157], node: usize, phase: u8) -> usiz
 }
 
 // The phase of a node that is asked.
-fn asked_turn(policy: &[u8], mem: &mut [u64; 157], node: usize, phase: u8) -> usize
+fn asked_turn(policy: &[u8], mem: &mut [u64; WORDS], node: usize, phase: u8) -> usize
     requires { ⌜ Stands (now policy) (now mem) node × Asked (now policy) (now mem) node (phaseOf phase) ⌝ }
     ensures { λ r. ⌜ TurnsAt (now (policy .entry)) node (phaseOf phase) (now (mem .entry)) (now (mem .exit)) r ⌝ }
 {
@@ -75,7 +76,7 @@ fn asked_turn(policy: &[u8], mem: &mut [u64; 157], node: usize, phase: u8) -> us
 // ---- a leaf
 
 // "A leaf's: go on to a next, end or halt": each insert goes its way before the leaf goes on.
-fn leaf(policy: &[u8], mem: &mut [u64; 157], node: usize, phase: u8) -> usize
+fn leaf(policy: &[u8], mem: &mut [u64; WORDS], node: usize, phase: u8) -> usize
     requires { ⌜ Stands (now policy) (now mem) node × ((kindAt (now policy) node ≡ aLeaf) × Asked (now policy) (now mem) node (phaseOf phase)) ⌝ }
     ensures { λ r. ⌜ TurnsAt (now (policy .entry)) node (phaseOf phase) (now (mem .entry)) (now (mem .exit)) r ⌝ }
 {
@@ -99,7 +100,7 @@ fn leaf(policy: &[u8], mem: &mut [u64; 157], node: usize, phase: u8) -> usize
 // ---- a node with two sides
 
 // "Both asked sides run the phase to its end, left first; then the node's status is read."
-fn parallel(policy: &[u8], mem: &mut [u64; 157], node: usize, phase: u8) -> usize
+fn parallel(policy: &[u8], mem: &mut [u64; WORDS], node: usize, phase: u8) -> usize
     requires { ⌜ Stands (now policy) (now mem) node × ((kindAt (now policy) node ≡ aPair parallel (joinAt (now policy) node)) × Asked (now policy) (now mem) node (phaseOf phase)) ⌝ }
     ensures { λ r. ⌜ TurnsAt (now (policy .entry)) node (phaseOf phase) (now (mem .entry)) (now (mem .exit)) r ⌝ }
 {
@@ -115,7 +116,7 @@ fn parallel(policy: &[u8], mem: &mut [u64; 157], node: usize, phase: u8) -> usiz
 }
 
 // "Before: the left side runs if asked"; "a sequential node closes its left side first". After the verdict the right side goes first.
-fn sequential(policy: &[u8], mem: &mut [u64; 157], node: usize, phase: u8) -> usize
+fn sequential(policy: &[u8], mem: &mut [u64; WORDS], node: usize, phase: u8) -> usize
     requires { ⌜ Stands (now policy) (now mem) node × (Sequential (now policy) node × Asked (now policy) (now mem) node (phaseOf phase)) ⌝ }
     ensures { λ r. ⌜ TurnsAt (now (policy .entry)) node (phaseOf phase) (now (mem .entry)) (now (mem .exit)) r ⌝ }
 {
@@ -130,7 +131,7 @@ fn sequential(policy: &[u8], mem: &mut [u64; 157], node: usize, phase: u8) -> us
 }
 
 // "After: the right first, if it was asked on a, then the left, if asked".
-fn right_first(policy: &[u8], mem: &mut [u64; 157], node: usize) -> usize
+fn right_first(policy: &[u8], mem: &mut [u64; WORDS], node: usize) -> usize
     requires { ⌜ Stands (now policy) (now mem) node × (Sequential (now policy) node × Asked (now policy) (now mem) node after) ⌝ }
     ensures { λ r. ⌜ TurnsAt (now (policy .entry)) node after (now (mem .entry)) (now (mem .exit)) r ⌝ }
 {
@@ -149,7 +150,7 @@ fn right_first(policy: &[u8], mem: &mut [u64; 157], node: usize) -> usize
 }
 
 // The right side's own part, or the end: "If the left suppressed a, the verdict is suppressed; otherwise the right is asked."
-fn after_left(policy: &[u8], mem: &mut [u64; 157], node: usize, phase: u8, x: usize) -> usize
+fn after_left(policy: &[u8], mem: &mut [u64; WORDS], node: usize, phase: u8, x: usize) -> usize
     requires { ⌜ Stands (now policy) (now mem) node × (Sequential (now policy) node × ((x < 2) × (phase ≡ afterNumber → ⊥))) ⌝ }
     ensures { λ r. ⌜ LeftEnds (now (policy .entry)) node (phaseOf phase) (now (mem .entry)) (now (mem .exit)) (eqb x 1) (ended r) ⌝ }
 {
@@ -170,7 +171,7 @@ fn after_left(policy: &[u8], mem: &mut [u64; 157], node: usize, phase: u8, x: us
 // ---- inserts
 
 // An insert of a node goes its way: up, as far as the right sides let it, and down again.
-fn emit(policy: &[u8], mem: &mut [u64; 157], node: usize, b: u8) -> usize
+fn emit(policy: &[u8], mem: &mut [u64; WORDS], node: usize, b: u8) -> usize
     requires { ⌜ Stands (now policy) (now mem) node ⌝ }
     ensures { λ r. ⌜ Emits (pathAt (now (policy .entry)) (now (mem .entry)) node) b (now (mem .entry)) (now (mem .exit)) (ended r) ⌝ }
 {
@@ -189,7 +190,7 @@ pub struct Risen {
 }
 
 // "each insert of the left side that the right regulates is given to the right as a turn of its own. Accepted, it is emitted between that turn's phases".
-fn rise(policy: &[u8], mem: &mut [u64; 157], node: usize, b: u8) -> Risen
+fn rise(policy: &[u8], mem: &mut [u64; WORDS], node: usize, b: u8) -> Risen
     requires { ⌜ Stands (now policy) (now mem) node ⌝ }
     ensures { λ r. ⌜ Rises (pathAt (now (policy .entry)) (now (mem .entry)) node) b (now (mem .entry)) (now (mem .exit)) node r ⌝ }
 {
@@ -198,7 +199,7 @@ fn rise(policy: &[u8], mem: &mut [u64; 157], node: usize, b: u8) -> Risen
     loop {
         let next = taker(policy, mem, at, b);
         if next == NONE {
-            say(mem, b);
+            let_out(mem, b);
             return Risen {
                 fed,
                 top: at,
@@ -226,7 +227,7 @@ fn rise(policy: &[u8], mem: &mut [u64; 157], node: usize, b: u8) -> Risen
 }
 
 // The nodes that took it, from above, which is by their numbers: each has its part to do.
-fn sink(policy: &[u8], mem: &mut [u64; 157], top: usize, node: usize, fed: ActionSet) -> usize
+fn sink(policy: &[u8], mem: &mut [u64; WORDS], top: usize, node: usize, fed: ActionSet) -> usize
     requires { ⌜ Stands (now policy) (now mem) node × ((k : ℕ) → top ≤ k → k < node → has (fed .bits) k ≡ true → Feeds (now policy) (now mem) node k) ⌝ }
     ensures { λ r. ⌜ ((ws : Words) (b : Action) → Owing (pathAt (now (policy .entry)) (now (mem .entry)) node) b ws (now (mem .entry)) node top (fed .bits)
         → Emits (pathAt (now (policy .entry)) (now (mem .entry)) node) b ws (now (mem .exit)) (ended r)) ⌝ }
@@ -245,7 +246,7 @@ fn sink(policy: &[u8], mem: &mut [u64; 157], top: usize, node: usize, fed: Actio
 }
 
 // A node's part once an insert is through above it: its right side's phase after the verdict, and "Status is read after each insert".
-fn settle_insert(policy: &[u8], mem: &mut [u64; 157], node: usize) -> usize
+fn settle_insert(policy: &[u8], mem: &mut [u64; WORDS], node: usize) -> usize
     requires { ⌜ Stands (now policy) (now mem) node × Sequential (now policy) node ⌝ }
     ensures { λ r. ⌜ Settles (now (policy .entry)) node (now (mem .entry)) (now (mem .exit)) (ended r) ⌝ }
 {

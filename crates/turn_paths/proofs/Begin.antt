@@ -1,4 +1,4 @@
--- The state that a memory holds, and what a phase is at its first stage. Assumes nothing.
+-- The state that a memory holds, and what a phase is at its first stage.
 use Prim.Native.Nat.{ℕ}
 use mathlib.Core.Path.{_≡_, refl, sym, ap, ap₂, _∙_}
 use mathlib.Core.Bool.{Bool, true, false, _&&_}
@@ -6,12 +6,12 @@ use Rattle.actions.specs.Sets.{Action, ActionSet, has}
 use Rattle.actions.proofs.Tests.{and-first}
 use Rattle.spec_policy.specs.Tree.{Way, parallel, sequential, Join, Tree, leaf, trivial, unsatisfiable, node, numberOf, regulated}
 use Rattle.spec_turns.specs.Status.{Status, ended, halted, dropped, isRunning, joined}
-use Rattle.spec_turns.specs.State.{State, at, over, status, asked, leftOf, rightOf, leafOver, drop, noded, settled}
+use Rattle.spec_turns.specs.State.{State, leafState, pairState, status, asked, leftOf, rightOf, leafOver, drop, pairWith, settled}
 use Rattle.spec_turns.specs.Process.{ran, lets, sups, accepts, suppresses, Out}
 use Rattle.spec_turns.specs.Turn.{Phase, before, after, closing, Behaviour, quiet, emitted, stillAsked, leafWork, parallelWork, sequentialWork, isAsked, ifAsked, phase, fresh}
 use Rattle.spec_turns.specs.Rest.{gone}
 use Rattle.turn_paths.specs.Run.{Run, halts, goes, andThen, flat, unlessRun, maybe, fedAfter, fedBefore, givenRun, feedRun}
-use Rattle.turn_paths.specs.Memory.{Cell, Mem, leafed, held, ranOf, parRight, parLeft, own, ends, atLeft, atFirst}
+use Rattle.turn_paths.specs.Memory.{Cell, Mem, leafWith, held, ranOf, parRight, parLeft, own, ends, atLeft, atFirst}
 use Rattle.turn_paths.specs.Choices.{askedIn}
 use Rattle.turn_paths.proofs.Runs.{ext, ext₂, flat-then, flat-if, flat-unless, flat-feed}
 use Rattle.spec_turns.proofs.StatusLaws.{is-running}
@@ -20,40 +20,40 @@ use Rattle.spec_turns.proofs.Walk.{fresh-runs}
 -- ---- the state that a memory holds
 
 -- a node's own status is the one in its cell
-leafed-status : (b : Bool) (s : Status) (m : Bool) (o c : ℕ) → status (elim b [ true ↦ at s m o c | false ↦ leafOver s ]) ≡ s
+leaf-with-status : (b : Bool) (s : Status) (m : Bool) (o c : ℕ) → status (elim b [ true ↦ leafState s m o c | false ↦ leafOver s ]) ≡ s
 unfolding status leafOver
-leafed-status true s m o c = refl
-leafed-status false s m o c = refl
+leaf-with-status true s m o c = refl
+leaf-with-status false s m o c = refl
 
-noded-status : (b : Bool) (s : Status) (m : Bool) (l r : State) → status (elim b [ true ↦ over s m l r | false ↦ over s false (drop l) (drop r) ]) ≡ s
+pair-with-status : (b : Bool) (s : Status) (m : Bool) (l r : State) → status (elim b [ true ↦ pairState s m l r | false ↦ pairState s false (drop l) (drop r) ]) ≡ s
 unfolding status
-noded-status true s m l r = refl
-noded-status false s m l r = refl
+pair-with-status true s m l r = refl
+pair-with-status false s m l r = refl
 
 pub held-status : (t : Tree) (m : Mem) → status (held t m) ≡ m (numberOf t) .status
-unfolding held numberOf leafed noded
-held-status (leaf i r c code) m = leafed-status (isRunning (m i .status)) (m i .status) (m i .asked) (m i .offset) (m i .counter)
-held-status (trivial i) m = leafed-status (isRunning (m i .status)) (m i .status) (m i .asked) 0 0
-held-status (unsatisfiable i) m = leafed-status (isRunning (m i .status)) (m i .status) (m i .asked) 0 0
-held-status (node w j i l r) m = noded-status (isRunning (m i .status)) (m i .status) (m i .asked) (held l m) (held r m)
+unfolding held numberOf leafWith pairWith
+held-status (leaf i r c code) m = leaf-with-status (isRunning (m i .status)) (m i .status) (m i .asked) (m i .offset) (m i .counter)
+held-status (trivial i) m = leaf-with-status (isRunning (m i .status)) (m i .status) (m i .asked) 0 0
+held-status (unsatisfiable i) m = leaf-with-status (isRunning (m i .status)) (m i .status) (m i .asked) 0 0
+held-status (node w j i l r) m = pair-with-status (isRunning (m i .status)) (m i .status) (m i .asked) (held l m) (held r m)
 
 -- a mark is read only where the node runs
-leafed-asked : (b : Bool) (s : Status) (m : Bool) (o c : ℕ) → asked (elim b [ true ↦ at s m o c | false ↦ leafOver s ]) ≡ b && m
+leaf-with-asked : (b : Bool) (s : Status) (m : Bool) (o c : ℕ) → asked (elim b [ true ↦ leafState s m o c | false ↦ leafOver s ]) ≡ b && m
 unfolding asked leafOver
-leafed-asked true s m o c = refl
-leafed-asked false s m o c = refl
+leaf-with-asked true s m o c = refl
+leaf-with-asked false s m o c = refl
 
-noded-asked : (b : Bool) (s : Status) (m : Bool) (l r : State) → asked (elim b [ true ↦ over s m l r | false ↦ over s false (drop l) (drop r) ]) ≡ b && m
+pair-with-asked : (b : Bool) (s : Status) (m : Bool) (l r : State) → asked (elim b [ true ↦ pairState s m l r | false ↦ pairState s false (drop l) (drop r) ]) ≡ b && m
 unfolding asked
-noded-asked true s m l r = refl
-noded-asked false s m l r = refl
+pair-with-asked true s m l r = refl
+pair-with-asked false s m l r = refl
 
 pub held-asked : (t : Tree) (m : Mem) → asked (held t m) ≡ isRunning (m (numberOf t) .status) && m (numberOf t) .asked
-unfolding held numberOf leafed noded
-held-asked (leaf i r c code) m = leafed-asked (isRunning (m i .status)) (m i .status) (m i .asked) (m i .offset) (m i .counter)
-held-asked (trivial i) m = leafed-asked (isRunning (m i .status)) (m i .status) (m i .asked) 0 0
-held-asked (unsatisfiable i) m = leafed-asked (isRunning (m i .status)) (m i .status) (m i .asked) 0 0
-held-asked (node w j i l r) m = noded-asked (isRunning (m i .status)) (m i .status) (m i .asked) (held l m) (held r m)
+unfolding held numberOf leafWith pairWith
+held-asked (leaf i r c code) m = leaf-with-asked (isRunning (m i .status)) (m i .status) (m i .asked) (m i .offset) (m i .counter)
+held-asked (trivial i) m = leaf-with-asked (isRunning (m i .status)) (m i .status) (m i .asked) 0 0
+held-asked (unsatisfiable i) m = leaf-with-asked (isRunning (m i .status)) (m i .status) (m i .asked) 0 0
+held-asked (node w j i l r) m = pair-with-asked (isRunning (m i .status)) (m i .status) (m i .asked) (held l m) (held r m)
 
 pub asked-in : (r : ActionSet) (ph : Phase) (t : Tree) (m : Mem) → isAsked r ph (held t m) ≡ askedIn r ph (m (numberOf t))
 unfolding isAsked askedIn
@@ -74,50 +74,50 @@ asked-running r ph t m e = asked-runs r ph (m (numberOf t)) (sym (asked-in r ph 
 -- the two sides of a node that runs
 module _ (w : Way) (j : Join) (i : ℕ) (l r : Tree) (m : Mem) (e : isRunning (m i .status) ≡ true) where
   pub left-held : leftOf (held (node w j i l r) m) ≡ held l m
-  unfolding held noded leftOf
-  left-held = rw (e, noded)
+  unfolding held pairWith leftOf
+  left-held = rw (e, pairWith)
 
   pub right-held : rightOf (held (node w j i l r) m) ≡ held r m
-  unfolding held noded rightOf
-  right-held = rw (e, noded)
+  unfolding held pairWith rightOf
+  right-held = rw (e, pairWith)
 
 -- ---- dropped states: all of a tree drops to the same
 
-leafed-drop : (b : Bool) (s : Status) (m : Bool) (o c : ℕ) → drop (elim b [ true ↦ at s m o c | false ↦ leafOver s ]) ≡ at dropped false 0 0
+leaf-with-drop : (b : Bool) (s : Status) (m : Bool) (o c : ℕ) → drop (elim b [ true ↦ leafState s m o c | false ↦ leafOver s ]) ≡ leafState dropped false 0 0
 unfolding drop leafOver
-leafed-drop true s m o c = refl
-leafed-drop false s m o c = refl
+leaf-with-drop true s m o c = refl
+leaf-with-drop false s m o c = refl
 
 pub drop-twice : (s : State) → drop (drop s) ≡ drop s
 unfolding drop leafOver
-drop-twice (at s m o c) = refl
-drop-twice (over s m l r) = ap₂ (over dropped false) (drop-twice l) (drop-twice r)
+drop-twice (leafState s m o c) = refl
+drop-twice (pairState s m l r) = ap₂ (pairState dropped false) (drop-twice l) (drop-twice r)
 
-noded-drop : (b : Bool) (s : Status) (m : Bool) (l r : State)
-    → drop (elim b [ true ↦ over s m l r | false ↦ over s false (drop l) (drop r) ]) ≡ over dropped false (drop l) (drop r)
+pair-with-drop : (b : Bool) (s : Status) (m : Bool) (l r : State)
+    → drop (elim b [ true ↦ pairState s m l r | false ↦ pairState s false (drop l) (drop r) ]) ≡ pairState dropped false (drop l) (drop r)
 unfolding drop
-noded-drop true s m l r = refl
-noded-drop false s m l r = ap₂ (over dropped false) (drop-twice l) (drop-twice r)
+pair-with-drop true s m l r = refl
+pair-with-drop false s m l r = ap₂ (pairState dropped false) (drop-twice l) (drop-twice r)
 
 pub drop-held : (t : Tree) (m : Mem) → drop (held t m) ≡ gone t
-unfolding held leafed noded gone
-drop-held (leaf i r c code) m = leafed-drop (isRunning (m i .status)) (m i .status) (m i .asked) (m i .offset) (m i .counter)
-drop-held (trivial i) m = leafed-drop (isRunning (m i .status)) (m i .status) (m i .asked) 0 0
-drop-held (unsatisfiable i) m = leafed-drop (isRunning (m i .status)) (m i .status) (m i .asked) 0 0
+unfolding held leafWith pairWith gone
+drop-held (leaf i r c code) m = leaf-with-drop (isRunning (m i .status)) (m i .status) (m i .asked) (m i .offset) (m i .counter)
+drop-held (trivial i) m = leaf-with-drop (isRunning (m i .status)) (m i .status) (m i .asked) 0 0
+drop-held (unsatisfiable i) m = leaf-with-drop (isRunning (m i .status)) (m i .status) (m i .asked) 0 0
 drop-held (node w j i l r) m =
-    noded-drop (isRunning (m i .status)) (m i .status) (m i .asked) (held l m) (held r m) ∙ ap₂ (over dropped false) (drop-held l m) (drop-held r m)
+    pair-with-drop (isRunning (m i .status)) (m i .status) (m i .asked) (held l m) (held r m) ∙ ap₂ (pairState dropped false) (drop-held l m) (drop-held r m)
 
 pub drop-fresh : (t : Tree) → drop (fresh t) ≡ gone t
 unfolding fresh gone drop leafOver
 drop-fresh (leaf i r c code) = refl
 drop-fresh (trivial i) = refl
 drop-fresh (unsatisfiable i) = refl
-drop-fresh (node w j i l r) = ap₂ (over dropped false) (drop-fresh l) (drop-fresh r)
+drop-fresh (node w j i l r) = ap₂ (pairState dropped false) (drop-fresh l) (drop-fresh r)
 
 -- a decided node, whatever lies beneath
-pub noded-over : (s : Status) (m : Bool) (l r : State) → isRunning s ≡ false → noded s m l r ≡ over s false (drop l) (drop r)
-unfolding noded
-noded-over s m l r e = rw (e, noded)
+pub pair-with-over : (s : Status) (m : Bool) (l r : State) → isRunning s ≡ false → pairWith s m l r ≡ pairState s false (drop l) (drop r)
+unfolding pairWith
+pair-with-over s m l r e = rw (e, pairWith)
 
 -- ---- the left side that waits: only its status matters, and what it drops to
 
@@ -127,15 +127,15 @@ module _ (l l′ : State) (es : status l ≡ status l′) (ed : drop l ≡ drop 
   unless-left j m u r p = on (isRunning (joined j (status l) (status r))) refl ∙ ap at-status es
     where
       at-status : Status → Run
-      at-status s = elim (isRunning (joined j s (status r))) [ true ↦ p | false ↦ halts (record { state = noded (joined j s (status r)) m l′ r; suppressed = u }) ]
+      at-status s = elim (isRunning (joined j s (status r))) [ true ↦ p | false ↦ halts (record { state = pairWith (joined j s (status r)) m l′ r; suppressed = u }) ]
 
       on : (b : Bool) → isRunning (joined j (status l) (status r)) ≡ b
-          → _≡_ {A = Run} (elim b [ true ↦ p | false ↦ halts (record { state = noded (joined j (status l) (status r)) m l r; suppressed = u }) ])
-          (elim b [ true ↦ p | false ↦ halts (record { state = noded (joined j (status l) (status r)) m l′ r; suppressed = u }) ])
+          → _≡_ {A = Run} (elim b [ true ↦ p | false ↦ halts (record { state = pairWith (joined j (status l) (status r)) m l r; suppressed = u }) ])
+          (elim b [ true ↦ p | false ↦ halts (record { state = pairWith (joined j (status l) (status r)) m l′ r; suppressed = u }) ])
       on true e = refl
       on false e = ap (λ (s : State). halts (record { state = s; suppressed = u }))
-          (noded-over (joined j (status l) (status r)) m l r e ∙ ap (λ (d : State). over (joined j (status l) (status r)) false d (drop r)) ed
-          ∙ sym (noded-over (joined j (status l) (status r)) m l′ r e))
+          (pair-with-over (joined j (status l) (status r)) m l r e ∙ ap (λ (d : State). pairState (joined j (status l) (status r)) false d (drop r)) ed
+          ∙ sym (pair-with-over (joined j (status l) (status r)) m l′ r e))
 
   module _ (j : Join) (rs : ActionSet) (right : Phase → State → Run) where
     given-left : (b : Action) (s : State) {k k′ : State → Run} → ((t : State) → k t ≡ k′ t) → givenRun j rs right l b s k ≡ givenRun j rs right l′ b s k′

@@ -1,5 +1,5 @@
 -- An insert that a node gives to its right side as a turn of its own: the phase before the verdict, the insert's way on, the phase after it, the node's
--- status. Assumes nothing.
+-- status.
 use Prim.Native.Nat.{ℕ}
 use mathlib.Core.Path.{_≡_, refl, sym, ap, ap₂, _∙_, subst}
 use mathlib.Core.Bool.{Bool, true, false, _&&_}

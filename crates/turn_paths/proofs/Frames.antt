@@ -1,4 +1,4 @@
--- The state that a memory holds of a tree depends on the cells of its own nodes only. Assumes nothing.
+-- The state that a memory holds of a tree depends on the cells of its own nodes only.
 use Prim.Native.Nat.{ℕ}
 use mathlib.Core.Path.{_≡_, refl, sym, ap, ap₂, _∙_, subst}
 use mathlib.Core.Bool.{Bool, true, false, _||_}
@@ -7,8 +7,8 @@ use lib.Dec.{T, eqb, eqb→eq, eqb-refl}
 use Rattle.actions.proofs.Tests.{yes-of, bool-cases, or-false-left, or-false-right, true-not-false}
 use Rattle.spec_policy.specs.Tree.{Way, Join, Tree, leaf, trivial, unsatisfiable, node, numberOf}
 use Rattle.spec_check.specs.Lawful.{holds, Disjoint, Numbered}
-use Rattle.spec_turns.specs.State.{noded}
-use Rattle.turn_paths.specs.Memory.{Cell, Mem, leafed, held}
+use Rattle.spec_turns.specs.State.{pairWith}
+use Rattle.turn_paths.specs.Memory.{Cell, Mem, leafWith, held}
 use Rattle.turn_paths.specs.Choices.{KeptBut}
 
 -- ---- numbers
@@ -73,12 +73,12 @@ held-apart t {i} {k} h e z = true-not-false (subst (λ (n : ℕ). holds t n ≡ 
 
 pub held-same : (t : Tree) (m m′ : Mem) → ((i : ℕ) → holds t i ≡ true → m′ i ≡ m i) → held t m′ ≡ held t m
 unfolding held holds
-held-same (leaf n r c code) m m′ h = ap (λ (x : Cell). leafed (x .status) (x .asked) (x .offset) (x .counter)) (h n (eqb-same n))
-held-same (trivial n) m m′ h = ap (λ (x : Cell). leafed (x .status) (x .asked) 0 0) (h n (eqb-same n))
-held-same (unsatisfiable n) m m′ h = ap (λ (x : Cell). leafed (x .status) (x .asked) 0 0) (h n (eqb-same n))
+held-same (leaf n r c code) m m′ h = ap (λ (x : Cell). leafWith (x .status) (x .asked) (x .offset) (x .counter)) (h n (eqb-same n))
+held-same (trivial n) m m′ h = ap (λ (x : Cell). leafWith (x .status) (x .asked) 0 0) (h n (eqb-same n))
+held-same (unsatisfiable n) m m′ h = ap (λ (x : Cell). leafWith (x .status) (x .asked) 0 0) (h n (eqb-same n))
 held-same (node w j n l r) m m′ h =
-    ap₂ (noded (m′ n .status) (m′ n .asked)) (held-same l m m′ (λ i e. h i (in-left w j n l r i e))) (held-same r m m′ (λ i e. h i (in-right w j n l r i e)))
-    ∙ ap (λ (x : Cell). noded (x .status) (x .asked) (held l m) (held r m)) (h n (in-own w j n l r))
+    ap₂ (pairWith (m′ n .status) (m′ n .asked)) (held-same l m m′ (λ i e. h i (in-left w j n l r i e))) (held-same r m m′ (λ i e. h i (in-right w j n l r i e)))
+    ∙ ap (λ (x : Cell). pairWith (x .status) (x .asked) (held l m) (held r m)) (h n (in-own w j n l r))
 
 -- ---- the two sides of a node
 

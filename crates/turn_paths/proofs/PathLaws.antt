@@ -1,4 +1,4 @@
--- What a run shows where it stands in the tree. Assumes nothing.
+-- What a run shows where it stands in the tree.
 use Prim.Native.Nat.{ℕ}
 use mathlib.Core.Path.{_≡_, refl, sym, ap, _∙_, subst}
 use mathlib.Core.Bool.{Bool, true, false, _||_}

@@ -1,4 +1,4 @@
--- Where a node stands: its cells and those above are apart; heights; the root. Assumes nothing.
+-- Where a node stands: its cells and those above are apart; heights; the root.
 use Prim.Native.Nat.{ℕ, suc, _<_}
 use native.Mathlib.Omega.{arith}
 use borrow.Author.Tests.{leb-false}

@@ -1,4 +1,4 @@
--- An insert on its way up: past a node whose right side is not asked, to one whose right side takes it, out at the root. Assumes nothing.
+-- An insert on its way up: past a node whose right side is not asked, to one whose right side takes it, out at the root.
 use Prim.Native.Nat.{ℕ}
 use mathlib.Core.Path.{_≡_, refl, sym, ap, _∙_, subst}
 use mathlib.Core.Bool.{Bool, true, false, _&&_}

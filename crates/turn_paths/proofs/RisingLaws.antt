@@ -1,4 +1,4 @@
--- An insert's whole way, up and down again, from what each node on it does. Assumes nothing.
+-- An insert's whole way, up and down again, from what each node on it does.
 use Prim.Native.Nat.{ℕ}
 use mathlib.Core.Path.{_≡_, sym, subst}
 use mathlib.Core.Bool.{Bool, true, false}

@@ -1,4 +1,4 @@
--- A process and what it runs, left side first. Assumes nothing.
+-- A process and what it runs, left side first.
 use mathlib.Core.Path.{_≡_, refl, sym, ap, _∙_}
 use mathlib.Core.Bool.{Bool, true, false, _&&_}
 use Rattle.actions.specs.Sets.{Action, ActionSet, has}

@@ -1,4 +1,4 @@
--- A node's phase from those of its sides, where it stands in the tree. Assumes nothing.
+-- A node's phase from those of its sides, where it stands in the tree.
 use Prim.Native.Nat.{ℕ}
 use mathlib.Core.Path.{_≡_, refl, sym, ap, ap₂, _∙_, subst}
 use mathlib.Core.Bool.{Bool, true, false, _&&_, _||_, not}
@@ -9,7 +9,7 @@ use Rattle.actions.proofs.Tests.{yes-of, or-false-left, true-not-false, and-fir
 use Rattle.spec_policy.specs.Tree.{Way, parallel, sequential, Join, Tree, node, regulated, numberOf}
 use Rattle.spec_check.specs.Lawful.{holds, Numbered}
 use Rattle.spec_turns.specs.Status.{Status, isRunning, isHalted, joined}
-use Rattle.spec_turns.specs.State.{State, over, status, drop, noded, settled}
+use Rattle.spec_turns.specs.State.{State, pairState, status, drop, pairWith, settled}
 use Rattle.spec_turns.specs.Process.{Item, Out}
 use Rattle.spec_turns.specs.Turn.{Phase, before, after, closing, stillAsked, judged, isAsked, fresh}
 use Rattle.spec_turns.proofs.Walk.{fresh-runs}
@@ -17,7 +17,7 @@ use Rattle.turn_paths.specs.Run.{Run, halts, andThen, unlessRun, feedRun
 use Rattle.turn_paths.specs.Memory.{Mem, held, ranOf, parRight, parLeft, own, ends, atLeft, atFirst}
 use Rattle.turn_paths.specs.Choices.{KeptBut, Settled, goesOn, endSup}
 use Rattle.turn_paths.proofs.Runs.{unless-running, unless-decided}
-use Rattle.turn_paths.proofs.Begin.{held-status, drop-held, drop-fresh, noded-over, idle, left-fresh, begins-parallel, begins-before, begins-closing, begins-after}
+use Rattle.turn_paths.proofs.Begin.{held-status, drop-held, drop-fresh, pair-with-over, idle, left-fresh, begins-parallel, begins-before, begins-closing, begins-after}
 use Rattle.turn_paths.proofs.Frames.{own-number, outside, outside-left, outside-right, held-same, not-right-of-left, not-left-of-right, held-l-own, held-r-own}
 use Rattle.turn_paths.specs.Paths.{Feeder, Outside, follows, feeds, feeders, within, Shows, Ended, done, stopped, Decided, cutShort, If, Stops, GoesOn, rights, isStop, Apart, Turned, LeftOver}
 use Rattle.turn_paths.proofs.PathLaws.{shows-same, shows-then, shows-as, shows-from, within-same, stops-map}
@@ -71,13 +71,13 @@ module _ (j : Join) (rs : ActionSet) (right : Phase → State → Run) where
     ends-on after g = true-not-false g refl
     ends-on closing g = unless-running j false false (x .state) t _ g
 
-noded-mark : (s : Status) (a b : Bool) (x y : State) → (isRunning s ≡ true → a ≡ b) → noded s a x y ≡ noded s b x y
-unfolding noded
+noded-mark : (s : Status) (a b : Bool) (x y : State) → (isRunning s ≡ true → a ≡ b) → pairWith s a x y ≡ pairWith s b x y
+unfolding pairWith
 noded-mark s a b x y h = on (isRunning s) h
   where
     on : (c : Bool) → (c ≡ true → a ≡ b)
-        → _≡_ {A = State} (elim c [ true ↦ over s a x y | false ↦ over s false (drop x) (drop y) ]) (elim c [ true ↦ over s b x y | false ↦ over s false (drop x) (drop y) ])
-    on true f = ap (λ (z : Bool). over s z x y) (f refl)
+        → _≡_ {A = State} (elim c [ true ↦ pairState s a x y | false ↦ pairState s false (drop x) (drop y) ]) (elim c [ true ↦ pairState s b x y | false ↦ pairState s false (drop x) (drop y) ])
+    on true f = ap (λ (z : Bool). pairState s z x y) (f refl)
     on false f = refl
 
 or-true-left : (p q : Bool) → p ≡ true → p || q ≡ true
@@ -105,10 +105,10 @@ module _ (j : Join) {n : ℕ} {l r : Tree} (sd : Numbered n l r) (fs : List Feed
   unfolding held settled
   settles w {m} {m′} {mark} st =
       let s : Status = joined j (m (numberOf l) .status) (m (numberOf r) .status) in
-      ap₂ (noded (m′ n .status) (m′ n .asked)) (held-l-own sd (st .others)) (held-r-own sd (st .others))
-      ∙ ap (λ (q : Status). noded q (m′ n .asked) (held l m) (held r m)) (st .status)
+      ap₂ (pairWith (m′ n .status) (m′ n .asked)) (held-l-own sd (st .others)) (held-r-own sd (st .others))
+      ∙ ap (λ (q : Status). pairWith q (m′ n .asked) (held l m) (held r m)) (st .status)
       ∙ noded-mark s (m′ n .asked) mark (held l m) (held r m) (st .asked)
-      ∙ ap (λ (q : Status). noded q mark (held l m) (held r m)) (sym (joined-held m))
+      ∙ ap (λ (q : Status). pairWith q mark (held l m) (held r m)) (sym (joined-held m))
 
   module _ (w : Way) (ap-node : Apart (node w j n l r) fs) where
     above : rights fs n ≡ false
@@ -210,10 +210,10 @@ module _ (j : Join) {n : ℕ} {l r : Tree} (sd : Numbered n l r) (fs : List Feed
   unfolding held settled
   cut-short m d =
       let e : joined j (status (fresh l)) (status (held r m)) ≡ m n .status = ap₂ (joined j) (fresh-runs l) (held-status r m) ∙ sym (d .status) in
-      noded-over (m n .status) (m n .asked) (held l m) (held r m) (d .over)
-      ∙ ap (λ (x : State). over (m n .status) false x (drop (held r m))) (drop-held l m ∙ sym (drop-fresh l))
-      ∙ sym (noded-over (m n .status) false (fresh l) (held r m) (d .over))
-      ∙ ap (λ (s : Status). noded s false (fresh l) (held r m)) (sym e)
+      pair-with-over (m n .status) (m n .asked) (held l m) (held r m) (d .over)
+      ∙ ap (λ (x : State). pairState (m n .status) false x (drop (held r m))) (drop-held l m ∙ sym (drop-fresh l))
+      ∙ sym (pair-with-over (m n .status) false (fresh l) (held r m) (d .over))
+      ∙ ap (λ (s : Status). pairWith s false (fresh l) (held r m)) (sym e)
 
   module _ {ph : Phase} {m₀ m : Mem} {xs : List Item} (g : AtLeft ph m₀ m xs) where
     kept-left : {m₁ : Mem} {ys : List Item} {x : Ended} → Turned (here ∷ fs) l ph m m₁ ys x

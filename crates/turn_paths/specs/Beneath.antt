@@ -1,5 +1,5 @@
 -- A node in the tree, with the sequential nodes on whose left side it is; how high a tree is, and how many nodes are still ahead of a phase or an
--- insert. Assumes nothing.
+-- insert.
 use Prim.Native.Nat.{ℕ, suc, _+_}
 use mathlib.Core.Bool.{true, false}
 use mathlib.Core.List.{List, [], _∷_}

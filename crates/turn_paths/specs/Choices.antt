@@ -1,4 +1,4 @@
--- What a node decides from a status or two, and what of the memory a write changes. Assumes nothing.
+-- What a node decides from a status or two, and what of the memory a write changes.
 use Prim.Native.Nat.{ℕ}
 use mathlib.Core.Path.{_≡_}
 use mathlib.Core.Bool.{Bool, true, false, _&&_, _||_, not}

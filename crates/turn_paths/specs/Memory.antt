@@ -1,10 +1,10 @@
--- The memory of a call, a cell for each node: the state that it holds, and a node's phase from it. Assumes nothing.
+-- The memory of a call, a cell for each node: the state that it holds, and a node's phase from it.
 use Prim.Native.Nat.{ℕ}
 use mathlib.Core.Bool.{Bool, true, false, _||_}
 use Rattle.actions.specs.Sets.{ActionSet}
 use Rattle.spec_policy.specs.Tree.{Join, Tree, leaf, trivial, unsatisfiable, node}
 use Rattle.spec_turns.specs.Status.{Status, isRunning}
-use Rattle.spec_turns.specs.State.{State, at, leafOver, noded, settled}
+use Rattle.spec_turns.specs.State.{State, leafState, leafOver, pairWith, settled}
 use Rattle.spec_turns.specs.Process.{Out}
 use Rattle.spec_turns.specs.Turn.{Phase, before, after, closing, judged, phase}
 use Rattle.turn_paths.specs.Run.{Run, halts, andThen, flat, unlessRun, feedRun}
@@ -22,15 +22,15 @@ Mem = ℕ → Cell
 -- ---- the state that the memory holds
 
 -- a leaf that does not run reads as zeros
-unfoldable pub leafed : Status → Bool → ℕ → ℕ → State
-leafed s m o c = elim (isRunning s) [ true ↦ at s m o c | false ↦ leafOver s ]
+unfoldable pub leafWith : Status → Bool → ℕ → ℕ → State
+leafWith s m o c = elim (isRunning s) [ true ↦ leafState s m o c | false ↦ leafOver s ]
 
 -- what lies under a decided node reads as dropped, whatever its cells hold
 unfoldable pub held : Tree → Mem → State
-held (leaf i r c code) m = leafed (m i .status) (m i .asked) (m i .offset) (m i .counter)
-held (trivial i) m = leafed (m i .status) (m i .asked) 0 0
-held (unsatisfiable i) m = leafed (m i .status) (m i .asked) 0 0
-held (node w j i l r) m = noded (m i .status) (m i .asked) (held l m) (held r m)
+held (leaf i r c code) m = leafWith (m i .status) (m i .asked) (m i .offset) (m i .counter)
+held (trivial i) m = leafWith (m i .status) (m i .asked) 0 0
+held (unsatisfiable i) m = leafWith (m i .status) (m i .asked) 0 0
+held (node w j i l r) m = pairWith (m i .status) (m i .asked) (held l m) (held r m)
 
 -- ---- a node's phase from those of its sides
 

@@ -1,4 +1,4 @@
--- Where a node's phase runs: what follows it, and the sequential nodes above on whose left side it is. Assumes nothing.
+-- Where a node's phase runs: what follows it, and the sequential nodes above on whose left side it is.
 use Prim.Native.Nat.{ℕ}
 use mathlib.Core.Path.{_≡_}
 use mathlib.Core.Bool.{Bool, true, false, _||_}

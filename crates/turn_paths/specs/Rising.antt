@@ -1,5 +1,5 @@
 -- An insert on its way up: past a node whose right side is not asked, given to one whose right side is, and what such a node then owes.
--- Assumes nothing.
+--
 use Prim.Native.Nat.{ℕ}
 use mathlib.Core.Path.{_≡_}
 use mathlib.Core.Bool.{Bool, true, false, _&&_}

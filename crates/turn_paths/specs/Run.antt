@@ -1,4 +1,4 @@
--- A process with the left side of every parallel node first: what the code runs, item by item. Assumes nothing.
+-- A process with the left side of every parallel node first: what the code runs, item by item.
 use mathlib.Core.Bool.{Bool, true, false, _&&_}
 use mathlib.Core.List.{List, [], _∷_}
 use lib.Dec.{T}

@@ -1,4 +1,4 @@
--- A leaf where the file has it: its steps, its tree, and its part of a phase. Assumes nothing.
+-- A leaf where the file has it: its steps, its tree, and its part of a phase.
 use Prim.Native.Nat.{ℕ, _-_, _<_}
 use native.Mathlib.Omega.{arith}
 use mathlib.Core.Path.{_≡_, refl, sym, ap, ap₂, _∙_, subst}
@@ -6,17 +6,17 @@ use mathlib.Core.Bool.{true}
 use mathlib.Core.List.{List}
 use Rattle.actions.specs.Sets.{ActionSet}
 use Rattle.spec_policy.specs.Bytes.{Bytes}
-use Rattle.spec_policy.specs.Records.{nodePlace, rowPlace, nodeAt, nodeCount}
+use Rattle.spec_policy.specs.Records.{nodePlace, stepPlace, nodeAt, nodeCount}
 use Rattle.spec_policy.specs.Steps.{Step}
 use Rattle.spec_policy.specs.Tree.{aLeaf, Tree, leaf, regulated, treeAt}
 use Rattle.spec_check.specs.Lawful.{LawfulLeaf}
-use Rattle.spec_check.proofs.Grown.{EachLeaf}
+use Rattle.spec_check.proofs.Under.{EachLeaf}
 use Rattle.laws_check.proofs.LawfulTree.{lawful-leaves}
 use Rattle.spec_turns.specs.Turn.{Phase, isAsked}
 use Rattle.file_records.specs.Code.{codeFrom, StepsIn}
 use Rattle.turn_paths.specs.Run.{Run}
 use Rattle.turn_paths.specs.Memory.{held, ranOf}
-use Rattle.turn_memory.specs.Words.{Words, view}
+use Rattle.turn_memory.specs.Words.{Words, memoryOf}
 use Rattle.turn_sides.specs.Sides.{kindAt}
 use Rattle.turn_tables.proofs.FileNodes.{Room, room, tree-leaf, leaf-room}
 use Rattle.turn_leaf.specs.Leaf.{Quietly, Passing, Left, came, Ran}
@@ -54,18 +54,18 @@ module _ {policy : Bytes} {ws : Words} {i : ℕ} (h : Stands policy ws i) (ek : 
   }
 
   pub leaf-fits : StepsIn policy first k
-  unfolding kindAt rowPlace
+  unfolding kindAt stepPlace
   leaf-fits = (omega (arith, file-room h .few), omega (arith, s .0, s .1, leaf-room (h .passed) i (h .inside) ek))
 
   module _ (ph : Phase) (ws′ : Words) where
     pub leaf-begun : Asked policy ws i ph
-        → ((r c : ℕ) → isAsked r ph (held (leaf i r c (codeFrom policy first k)) (view ws)) ≡ true → Left i r c (codeFrom policy first k) ph ws ws′) → Begun policy i ph ws ws′
+        → ((r c : ℕ) → isAsked r ph (held (leaf i r c (codeFrom policy first k)) (memoryOf ws)) ≡ true → Left i r c (codeFrom policy first k) ph ws ws′) → Begun policy i ph ws ws′
     unfolding leafRun regulated
     leaf-begun a g =
-        let z : isAsked set ph (held here (view ws)) ≡ true = subst (λ (t : Tree). isAsked (regulated t) ph (held t (view ws)) ≡ true) leaf-tree a in
+        let z : isAsked set ph (held here (memoryOf ws)) ≡ true = subst (λ (t : Tree). isAsked (regulated t) ph (held t (memoryOf ws)) ≡ true) leaf-tree a in
         let l = g set start z in
         record {
-          begun = subst (λ (t : Tree). Quietly (ranOf t ph (held t (view ws))) (leafRun t ph (view ws′))) (sym leaf-tree) (l .begun);
+          begun = subst (λ (t : Tree). Quietly (ranOf t ph (held t (memoryOf ws))) (leafRun t ph (memoryOf ws′))) (sym leaf-tree) (l .begun);
           only = l .only;
         }
 
@@ -79,7 +79,7 @@ module _ {policy : Bytes} {ws : Words} {i : ℕ} (h : Stands policy ws i) (ek : 
     leaf-went {x} g =
         let r = g set start in
         record {
-          gives = subst (λ (t : Tree). Quietly (leafRun t ph (view ws)) (cameTo t ph ws′ x)) (sym leaf-tree)
-              (subst (λ (q : Run). Quietly (leafRun here ph (view ws)) q) (came-to x) (r .gives));
+          gives = subst (λ (t : Tree). Quietly (leafRun t ph (memoryOf ws)) (cameTo t ph ws′ x)) (sym leaf-tree)
+              (subst (λ (q : Run). Quietly (leafRun here ph (memoryOf ws)) q) (came-to x) (r .gives));
           only = r .only;
         }

@@ -1,4 +1,4 @@
--- The sides of a node of the file: where they stand, and how many nodes are still ahead of them. Assumes nothing.
+-- The sides of a node of the file: where they stand, and how many nodes are still ahead of them.
 use Prim.Native.Nat.{ℕ, _+_, _≤_, _<_}
 use native.Mathlib.Omega.{arith}
 use mathlib.Core.Path.{_≡_, sym, ap, _∙_, subst}

@@ -1,4 +1,4 @@
--- An insert's way up from a node of the file, by the tables. Assumes nothing.
+-- An insert's way up from a node of the file, by the tables.
 use Prim.Native.Nat.{ℕ, zero, suc, _+_, _≤_, _<_}
 use native.Mathlib.Omega.{arith}
 use mathlib.Core.Path.{_≡_, refl, sym, ap, ap₂, _∙_, subst}
@@ -24,7 +24,7 @@ use Rattle.turn_paths.specs.Paths.{Feeder}
 use Rattle.turn_paths.specs.Beneath.{Beneath, onParallelLeft, onLeft, onRight}
 use Rattle.turn_paths.specs.Rising.{takes, Skips, here, past}
 use Rattle.turn_paths.proofs.Begin.{held-status}
-use Rattle.turn_memory.specs.Words.{Words, setPlace, view}
+use Rattle.turn_memory.specs.Words.{Words, setPlace, memoryOf}
 use Rattle.turn_memory.specs.Phases.{phaseOf}
 use Rattle.turn_sides.specs.Sides.{kindAt, leftAt, rightAt, joinAt, wayOfKind, wayAt, Sided}
 use Rattle.turn_sides.proofs.Nodes.{tree-is}
@@ -150,19 +150,19 @@ passes-skips m (f ∷ fs) p = past (and-no (isRunning (status (held (f .right) m
 
 -- whether the right side is asked, as the code reads it
 pub asked-takes : {policy : Bytes} {ws : Words} (p b x : ℕ) {v : Bool} → Tabled policy ws → rightAt policy p < nodeCount policy → b < 64 → x ≡ rightAt policy p
-    → v ≡ askedIn (getD ws (setPlace + x) 0) (phaseOf b) (view ws x) → takes (asFeeder policy p) b (view ws) ≡ v
+    → v ≡ askedIn (getD ws (setPlace + x) 0) (phaseOf b) (memoryOf ws x) → takes (asFeeder policy p) b (memoryOf ws) ≡ v
 unfolding askedIn
 asked-takes {policy} {ws} p b x {v} t n l e g =
     let r = rightAt policy p in
-    ap₂ (λ (s : Status) (k : ℕ). isRunning s && has k b) (held-status (treeAt policy r) (view ws) ∙ ap (λ (i : ℕ). view ws i .status) (number-at policy r)) (sym (t .entered r n .set))
-    ∙ sym (ap (λ (ph : Phase). askedIn (getD ws (setPlace + r) 0) ph (view ws r)) (phase-before b l))
-    ∙ ap (λ (i : ℕ). askedIn (getD ws (setPlace + i) 0) (phaseOf b) (view ws i)) (sym e) ∙ sym g
+    ap₂ (λ (s : Status) (k : ℕ). isRunning s && has k b) (held-status (treeAt policy r) (memoryOf ws) ∙ ap (λ (i : ℕ). memoryOf ws i .status) (number-at policy r)) (sym (t .entered r n .set))
+    ∙ sym (ap (λ (ph : Phase). askedIn (getD ws (setPlace + r) 0) ph (memoryOf ws r)) (phase-before b l))
+    ∙ ap (λ (i : ℕ). askedIn (getD ws (setPlace + i) 0) (phaseOf b) (memoryOf ws i)) (sym e) ∙ sym g
 
 -- ---- the search for the next node that takes an insert
 
-module _ {policy : Bytes} {ws : Words} {i p : ℕ} {b : Action} (h : Stands policy ws p) (o : p ≤ i) (s : Skips b (view ws) (pathAt policy ws i) (pathAt policy ws p)) where
+module _ {policy : Bytes} {ws : Words} {i p : ℕ} {b : Action} (h : Stands policy ws p) (o : p ≤ i) (s : Skips b (memoryOf ws) (pathAt policy ws i) (pathAt policy ws p)) where
   pub none-found : has (aboveAt ws p) b ≡ false → (31 ≤ 31) × Finds policy ws i b (ltb 31 31) 31
-  none-found e = (omega arith, skips-then s (passes-skips (view ws) (pathAt policy ws p) (none-above (h .tabled .linked) b p (h .inside) e)))
+  none-found e = (omega arith, skips-then s (passes-skips (memoryOf ws) (pathAt policy ws p) (none-above (h .tabled .linked) b p (h .inside) e)))
 
   module _ (e : has (aboveAt ws p) b ≡ true) where
     next-low : feederAt ws p < 31
@@ -172,22 +172,22 @@ module _ {policy : Bytes} {ws : Words} {i p : ℕ} {b : Action} (h : Stands poli
     next-up = up-from h next-low
 
     -- to the next node
-    to-next : Skips b (view ws) (pathAt policy ws i) (asFeeder policy (feederAt ws p) ∷ pathAt policy ws (feederAt ws p))
-    to-next = subst (Skips b (view ws) (pathAt policy ws i)) (path-some h next-low) s
+    to-next : Skips b (memoryOf ws) (pathAt policy ws i) (asFeeder policy (feederAt ws p) ∷ pathAt policy ws (feederAt ws p))
+    to-next = subst (Skips b (memoryOf ws) (pathAt policy ws i)) (path-some h next-low) s
 
-    pub found : (r : ℕ) → r ≡ feederAt ws p → takes (asFeeder policy r) b (view ws) ≡ true → (r ≤ 31) × Finds policy ws i b (ltb r 31) r
+    pub found : (r : ℕ) → r ≡ feederAt ws p → takes (asFeeder policy r) b (memoryOf ws) ≡ true → (r ≤ 31) × Finds policy ws i b (ltb r 31) r
     found r q a =
         let l : r < 31 = omega (arith, q, next-low) in (
           omega (arith, l),
           subst (λ (v : Bool). Finds policy ws i b v r) (sym (lt-ltb r 31 l)) (
-            subst (λ (x : ℕ). Skips b (view ws) (pathAt policy ws i) (asFeeder policy x ∷ pathAt policy ws x)) (sym q) to-next,
+            subst (λ (x : ℕ). Skips b (memoryOf ws) (pathAt policy ws i) (asFeeder policy x ∷ pathAt policy ws x)) (sym q) to-next,
             a,
             (omega (arith, q, o, next-up .below), has-low (aboveAt ws p) b e),
           ),
         )
 
-    pub not-here : (r : ℕ) → r ≡ feederAt ws p → takes (asFeeder policy r) b (view ws) ≡ false
-        → Stands policy ws r × ((r ≤ i) × Skips b (view ws) (pathAt policy ws i) (pathAt policy ws r))
+    pub not-here : (r : ℕ) → r ≡ feederAt ws p → takes (asFeeder policy r) b (memoryOf ws) ≡ false
+        → Stands policy ws r × ((r ≤ i) × Skips b (memoryOf ws) (pathAt policy ws i) (pathAt policy ws r))
     not-here r q a =
-        subst (λ (x : ℕ). Stands policy ws x × ((x ≤ i) × Skips b (view ws) (pathAt policy ws i) (pathAt policy ws x))) (sym q)
-        (next-up .stands, (omega (arith, o, next-up .below), skips-then to-next (past (subst (λ (x : ℕ). takes (asFeeder policy x) b (view ws) ≡ false) q a) here)))
+        subst (λ (x : ℕ). Stands policy ws x × ((x ≤ i) × Skips b (memoryOf ws) (pathAt policy ws i) (pathAt policy ws x))) (sym q)
+        (next-up .stands, (omega (arith, o, next-up .below), skips-then to-next (past (subst (λ (x : ℕ). takes (asFeeder policy x) b (memoryOf ws) ≡ false) q a) here)))

@@ -1,5 +1,5 @@
 -- A node of the file where a turn comes to it: what is asked of the words, its leaf's part of a phase, and the next node that takes an insert.
--- Assumes nothing.
+--
 use Prim.Native.Nat.{ℕ, _≤_, _<_}
 use mathlib.Core.Path.{_≡_}
 use mathlib.Core.Bool.{Bool, true, false}
@@ -16,7 +16,7 @@ use Rattle.turn_paths.specs.Run.{Run, halts, goes}
 use Rattle.turn_paths.specs.Memory.{Mem, held, ranOf}
 use Rattle.turn_paths.specs.Beneath.{Beneath}
 use Rattle.turn_paths.specs.Rising.{takes, Skips}
-use Rattle.turn_memory.specs.Words.{Words, setPlace, wordCount, view, Only}
+use Rattle.turn_memory.specs.Words.{Words, setPlace, wordCount, memoryOf, Only}
 use Rattle.turn_sides.specs.Sides.{kindAt, joinAt}
 use Rattle.turn_tables.specs.Tables.{Tabled, asFeeder, pathAt}
 use Rattle.turn_leaf.specs.Leaf.{Quietly, onward}
@@ -42,7 +42,7 @@ Sequential policy i = kindAt policy i ≡ aPair sequential (joinAt policy i)
 
 -- it is asked in the phase
 abbrev pub Asked : Bytes → Words → ℕ → Phase → Type 0
-Asked policy ws i ph = isAsked (regulated (treeAt policy i)) ph (held (treeAt policy i) (view ws)) ≡ true
+Asked policy ws i ph = isAsked (regulated (treeAt policy i)) ph (held (treeAt policy i) (memoryOf ws)) ≡ true
 
 -- ---- a leaf
 
@@ -59,22 +59,22 @@ StepsOf policy i first k = (first ≡ firstStep policy i) × (k ≡ nodeAt polic
 
 -- its phase has begun
 pub record Begun (policy : Bytes) (i : ℕ) (ph : Phase) (ws ws′ : Words) : Type 0 where
-  pub begun : Quietly (ranOf (treeAt policy i) ph (held (treeAt policy i) (view ws))) (leafRun (treeAt policy i) ph (view ws′))
+  pub begun : Quietly (ranOf (treeAt policy i) ph (held (treeAt policy i) (memoryOf ws))) (leafRun (treeAt policy i) ph (memoryOf ws′))
   pub only : Only i ws ws′
 
 -- it came to an insert, or to its phase's end
 abbrev pub cameTo : Tree → Phase → Words → Progress → Run
-cameTo t ph ws′ (Insert b) = goes (lets b) (leafRun t ph (view ws′))
-cameTo t ph ws′ (Done u) = halts (record { state = held t (view ws′); suppressed = u })
+cameTo t ph ws′ (Insert b) = goes (lets b) (leafRun t ph (memoryOf ws′))
+cameTo t ph ws′ (Done u) = halts (record { state = held t (memoryOf ws′); suppressed = u })
 
 pub record WentOn (policy : Bytes) (i : ℕ) (ph : Phase) (ws ws′ : Words) (x : Progress) : Type 0 where
-  pub gives : Quietly (leafRun (treeAt policy i) ph (view ws)) (cameTo (treeAt policy i) ph ws′ x)
+  pub gives : Quietly (leafRun (treeAt policy i) ph (memoryOf ws)) (cameTo (treeAt policy i) ph ws′ x)
   pub only : Only i ws ws′
 
 -- ---- an insert's way up
 
 -- the next node on node i's way up whose right side is asked about the insert, or none
 abbrev pub Finds : Bytes → Words → ℕ → Action → Bool → ℕ → Type 0
-Finds policy ws i b true r = Skips b (view ws) (pathAt policy ws i) (asFeeder policy r ∷ pathAt policy ws r) × (takes (asFeeder policy r) b (view ws) ≡ true)
+Finds policy ws i b true r = Skips b (memoryOf ws) (pathAt policy ws i) (asFeeder policy r ∷ pathAt policy ws r) × (takes (asFeeder policy r) b (memoryOf ws) ≡ true)
     × ((r < i) × (b < 64))
-Finds policy ws i b false r = Skips b (view ws) (pathAt policy ws i) []
+Finds policy ws i b false r = Skips b (memoryOf ws) (pathAt policy ws i) []

@@ -4,7 +4,7 @@ ghost use Prim.Native.Nat.{_≤_};
 ghost use lib.Dec.{ltb, eqb};
 ghost use Rattle.spec_policy.specs.Tree.{aLeaf};
 ghost use Rattle.turn_paths.specs.Choices.{emits};
-ghost use Rattle.turn_memory.specs.Words.{view};
+ghost use Rattle.turn_memory.specs.Words.{memoryOf};
 ghost use Rattle.turn_memory.specs.Phases.{phaseOf};
 ghost use Rattle.turn_sides.specs.Sides.{kindAt, rightAt, joinAt, Sided};
 ghost use Rattle.turn_place.specs.Places.{Stands, Asked, StepsOf, Begun, WentOn, Finds};
@@ -14,6 +14,7 @@ use turn_ends::SUPPRESSED;
 use turn_leaf::Progress;
 use turn_leaf::leave;
 use turn_leaf::run;
+use turn_memory::WORDS;
 use turn_memory::status_at;
 use turn_sides::emits;
 use turn_sides::is_asked;
@@ -32,7 +33,7 @@ struct Steps {
     count: usize,
 }
 
-fn steps_of(policy: &[u8], mem: &[u64; 157], node: usize) -> Steps
+fn steps_of(policy: &[u8], mem: &[u64; WORDS], node: usize) -> Steps
     requires { ⌜ Stands (now policy) (now mem) node ⌝ }
     ensures { λ r. ⌜ StepsOf (now (policy .entry)) node (r .first) (r .count) ⌝ }
 {
@@ -43,7 +44,7 @@ fn steps_of(policy: &[u8], mem: &[u64; 157], node: usize) -> Steps
 }
 
 // A leaf that is asked begins its phase.
-pub fn begin_leaf(policy: &[u8], mem: &mut [u64; 157], node: usize, phase: u8)
+pub fn begin_leaf(policy: &[u8], mem: &mut [u64; WORDS], node: usize, phase: u8)
     requires { ⌜ Stands (now policy) (now mem) node × ((kindAt (now policy) node ≡ aLeaf) × Asked (now policy) (now mem) node (phaseOf phase)) ⌝ }
     ensures { λ _. ⌜ Begun (now (policy .entry)) node (phaseOf phase) (now (mem .entry)) (now (mem .exit)) ⌝ }
 {
@@ -52,7 +53,7 @@ pub fn begin_leaf(policy: &[u8], mem: &mut [u64; 157], node: usize, phase: u8)
 }
 
 // Up to the leaf's next insert, or to its phase's end.
-pub fn run_leaf(policy: &[u8], mem: &mut [u64; 157], node: usize, phase: u8) -> Progress
+pub fn run_leaf(policy: &[u8], mem: &mut [u64; WORDS], node: usize, phase: u8) -> Progress
     requires { ⌜ Stands (now policy) (now mem) node × (kindAt (now policy) node ≡ aLeaf) ⌝ }
     ensures { λ x. ⌜ WentOn (now (policy .entry)) node (phaseOf phase) (now (mem .entry)) (now (mem .exit)) x ⌝ }
 {
@@ -63,7 +64,7 @@ pub fn run_leaf(policy: &[u8], mem: &mut [u64; 157], node: usize, phase: u8) -> 
 // ---- an insert's way up
 
 // The nearest node above, on whose left side this one is, whose right side is asked about the insert, or NONE.
-pub fn taker(policy: &[u8], mem: &[u64; 157], node: usize, b: u8) -> usize
+pub fn taker(policy: &[u8], mem: &[u64; WORDS], node: usize, b: u8) -> usize
     requires { ⌜ Stands (now policy) (now mem) node ⌝ }
     ensures { λ r. ⌜ (r ≤ mostNodes) × Finds (now (policy .entry)) (now (mem .entry)) node b (ltb r mostNodes) r ⌝ }
 {
@@ -81,9 +82,9 @@ pub fn taker(policy: &[u8], mem: &[u64; 157], node: usize, b: u8) -> usize
 }
 
 // Whether an insert goes on from a node, once its right side's phase before the verdict has ended with x.
-pub fn lets_on(policy: &[u8], mem: &[u64; 157], node: usize, x: usize) -> bool
+pub fn lets_on(policy: &[u8], mem: &[u64; WORDS], node: usize, x: usize) -> bool
     requires { ⌜ Sided (now policy) node ⌝ }
-    ensures { λ r. ⌜ r ≡ emits (joinAt (now (policy .entry)) node) (view (now (mem .entry)) (rightAt (now (policy .entry)) node) .status) (eqb x 1) ⌝ }
+    ensures { λ r. ⌜ r ≡ emits (joinAt (now (policy .entry)) node) (memoryOf (now (mem .entry)) (rightAt (now (policy .entry)) node) .status) (eqb x 1) ⌝ }
 {
     let status = status_at(mem, right_of(policy, node));
     emits(join_of(policy, node), status, x == SUPPRESSED)

@@ -1,4 +1,4 @@
--- A memory in which no node is opened yet holds the state that opening starts from; and words written one after another. Assumes nothing.
+-- A memory in which no node is opened yet holds the state that opening starts from; and words written one after another.
 use Prim.Native.Nat.{ℕ, _+_, _≤_, _<_}
 use native.Mathlib.Omega.{arith}
 use native.Mathlib.Nat.{eq-or-lt-of-le}
@@ -13,19 +13,19 @@ use Rattle.actions.specs.Sets.{ActionSet}
 use Rattle.spec_policy.specs.Bytes.{Bytes}
 use Rattle.spec_policy.specs.Records.{Node, nodeCount, nodePlace, nodeAt}
 use Rattle.spec_policy.specs.Steps.{Step}
-use Rattle.spec_policy.specs.Tree.{places, Tree, leaf, trivial, unsatisfiable, node, tree}
+use Rattle.spec_policy.specs.Tree.{nodesWithSteps, Tree, leaf, trivial, unsatisfiable, node, tree}
 use Rattle.spec_check.specs.Lawful.{holds}
 use Rattle.spec_check.specs.Passed.{Passed}
-use Rattle.spec_check.proofs.Grown.{EachLeaf, grown-leaves}
+use Rattle.spec_check.proofs.Under.{EachLeaf, under-leaves}
 use Rattle.spec_check.proofs.Numbers.{node-in}
 use Rattle.laws_check.proofs.LawfulTree.{numbers-below-nodes}
 use Rattle.spec_turns.specs.Status.{running, statusOf, isRunning}
-use Rattle.spec_turns.specs.State.{State, over, noded}
+use Rattle.spec_turns.specs.State.{State, pairState, pairWith}
 use Rattle.spec_turns.specs.Turn.{fresh}
 use Rattle.laws_turns.proofs.Cells.{below-here, below-left, below-right}
 use Rattle.laws_turns.specs.Cells.{Below}
-use Rattle.turn_paths.specs.Memory.{Cell, Mem, leafed, held}
-use Rattle.turn_memory.specs.Words.{Words, packed, celled, view}
+use Rattle.turn_paths.specs.Memory.{Cell, Mem, leafWith, held}
+use Rattle.turn_memory.specs.Words.{Words, packed, celled, memoryOf}
 use Rattle.turn_tables.proofs.FileNodes.{room}
 use Rattle.turn_memory.proofs.CellLaws.{celled-packed, view-at}
 use Rattle.turn_rest.specs.Rest.{KeptFrom, recordAt}
@@ -47,18 +47,18 @@ module _ (file : Bytes) (m : Mem) (all : AllUnopened file m) where
 
   starts : EachLeaf Starts (tree file)
   unfolding tree Starts
-  starts = grown-leaves (places file) Starts (λ i e h. ap (λ (x : Node). x .start) (node-in file i h)) (nodeCount file) 0
+  starts = under-leaves (nodesWithSteps file) Starts (λ i e h. ap (λ (x : Node). x .start) (node-in file i h)) (nodeCount file) 0
 
   held-each : (t : Tree) → EachLeaf Starts t → Below (nodeCount file) t → held t m ≡ fresh t
-  unfolding Starts EachLeaf held fresh leafed noded isRunning AllUnopened holds
+  unfolding Starts EachLeaf held fresh leafWith pairWith isRunning AllUnopened holds
   held-each (leaf i r c code) s below =
       let h : i < nodeCount file = below i (eqb-refl i) in
       rw (all i h, s h)
   held-each (trivial i) s below = rw (all i (below i (eqb-refl i)))
   held-each (unsatisfiable i) s below = rw (all i (below i (eqb-refl i)))
   held-each (node w j i l r) s below =
-      ap (λ (x : Cell). noded (x .status) (x .asked) (held l m) (held r m)) (all i (below-here (nodeCount file) w j i l r below))
-      ∙ ap₂ (λ (x y : State). over running true x y)
+      ap (λ (x : Cell). pairWith (x .status) (x .asked) (held l m) (held r m)) (all i (below-here (nodeCount file) w j i l r below))
+      ∙ ap₂ (λ (x y : State). pairState running true x y)
       (held-each l (s .0) (below-left (nodeCount file) w j i l r below)) (held-each r (s .1) (below-right (nodeCount file) w j i l r below))
 
 held-fresh : (file : Bytes) → Passed file → (m : Mem) → AllUnopened file m → held (tree file) m ≡ fresh (tree file)
@@ -109,6 +109,6 @@ opens-here file i {c = c} e f =
     celled-packed 1 0 1 c (omega arith) (omega arith) (omega arith) (f .1) ∙ ap unopened (f .0 ∙ ap (λ (p : ℕ). nodeAt file p .start) e)
 
 pub opens : {file : Bytes} {n : ℕ} (ws : Words) → Passed file → n ≡ nodeCount file → ((i : ℕ) → i < n → Opens file i (getD ws i 0))
-    → held (tree file) (view ws) ≡ fresh (tree file)
+    → held (tree file) (memoryOf ws) ≡ fresh (tree file)
 unfolding AllUnopened
-opens {file} ws ok e h = held-fresh file ok (view ws) (λ i l. view-at ws i (omega (arith, l, room ok .few)) ∙ h i (omega arith))
+opens {file} ws ok e h = held-fresh file ok (memoryOf ws) (λ i l. view-at ws i (omega (arith, l, room ok .few)) ∙ h i (omega arith))

@@ -1,5 +1,5 @@
 -- A saved state that fits, read into the memory of a call, is what it loads: its marks are zero, a node that does not run has offset
--- and counter zero, and all under a decided node is dropped. Assumes nothing.
+-- and counter zero, and all under a decided node is dropped.
 use Prim.Native.Nat.{ℕ, _+_, _*_, _<_}
 use native.Mathlib.Omega.{arith}
 use mathlib.Core.Path.{_≡_, refl, sym, ap, ap₂, _∙_}
@@ -19,15 +19,15 @@ use Rattle.spec_check.specs.Passed.{Passed}
 use Rattle.laws_check.proofs.LawfulTree.{numbers-below-nodes}
 use Rattle.spec_turns.specs.Status.{Status, running, ended, endedLeft, endedRight, halted, dropped, statusOf, isRunning}
 use Rattle.spec_turns.specs.State as states
-use Rattle.spec_turns.specs.State.{State, at, over, leafOver, noded}
+use Rattle.spec_turns.specs.State.{State, leafState, pairState, leafOver, pairWith}
 use Rattle.spec_turns.specs.Saved.{cellSize, stateSize, cellPlace, statusAt, offsetAt, zerosAt, counterAt, load, fits}
-use Rattle.spec_turns.specs.Rest.{gone, decidedBy, Rest, leaf-waits, leaf-ended, leaf-halted, trivial-ended, unsatisfiable-halted, pair-runs, pair-decided}
+use Rattle.spec_turns.specs.Rest.{gone, decidedBy, AtRest, leaf-waits, leaf-ended, leaf-halted, trivial-ended, unsatisfiable-halted, pair-runs, pair-decided}
 use Rattle.laws_turns.proofs.Cells.{holds-here, holds-left, holds-right}
 use Rattle.laws_turns.proofs.Fits.{fitting, fits-load}
 use Rattle.laws_turns.proofs.Lasting.{in-cells}
-use Rattle.turn_paths.specs.Memory.{Cell, Mem, leafed, held}
-use Rattle.turn_paths.proofs.Begin.{drop-held, noded-over}
-use Rattle.turn_memory.specs.Words.{Words, packed, celled, view}
+use Rattle.turn_paths.specs.Memory.{Cell, Mem, leafWith, held}
+use Rattle.turn_paths.proofs.Begin.{drop-held, pair-with-over}
+use Rattle.turn_memory.specs.Words.{Words, packed, celled, memoryOf}
 use Rattle.turn_memory.proofs.CellLaws.{celled-packed, view-at}
 use Rattle.turn_rest.specs.Rest.{Woken}
 
@@ -48,40 +48,40 @@ decided-stops or endedRight d = refl
 decided-stops or halted d = refl
 decided-stops or dropped d = refl
 
-rest-leaf : (i c₀ : ℕ) (r : ActionSet) (code : List Step) {x : Status} {o c : ℕ} → Rest (leaf i r c₀ code) (at x false o c) → leafed x false o c ≡ at x false o c
-unfolding leafed leafOver isRunning
+rest-leaf : (i c₀ : ℕ) (r : ActionSet) (code : List Step) {x : Status} {o c : ℕ} → AtRest (leaf i r c₀ code) (leafState x false o c) → leafWith x false o c ≡ leafState x false o c
+unfolding leafWith leafOver isRunning
 rest-leaf i c₀ r code (leaf-waits n h) = refl
 rest-leaf i c₀ r code leaf-ended = refl
 rest-leaf i c₀ r code leaf-halted = refl
 
-rest-trivial : (i : ℕ) {x : Status} {o c : ℕ} → Rest (trivial i) (at x false o c) → leafed x false 0 0 ≡ at x false o c
-unfolding leafed leafOver isRunning
+rest-trivial : (i : ℕ) {x : Status} {o c : ℕ} → AtRest (trivial i) (leafState x false o c) → leafWith x false 0 0 ≡ leafState x false o c
+unfolding leafWith leafOver isRunning
 rest-trivial i trivial-ended = refl
 
-rest-unsatisfiable : (i : ℕ) {x : Status} {o c : ℕ} → Rest (unsatisfiable i) (at x false o c) → leafed x false 0 0 ≡ at x false o c
-unfolding leafed leafOver isRunning
+rest-unsatisfiable : (i : ℕ) {x : Status} {o c : ℕ} → AtRest (unsatisfiable i) (leafState x false o c) → leafWith x false 0 0 ≡ leafState x false o c
+unfolding leafWith leafOver isRunning
 rest-unsatisfiable i unsatisfiable-halted = refl
 
 -- a and b are the sides as the memory holds them
-rest-pair : (w : Way) (j : Join) (i : ℕ) (l r : Tree) {x : Status} {a b a′ b′ : State} → (Rest l a′ → a ≡ a′) → (Rest r b′ → b ≡ b′)
-    → states.drop a ≡ gone l → states.drop b ≡ gone r → Rest (node w j i l r) (over x false a′ b′) → noded x false a b ≡ over x false a′ b′
-unfolding noded
-rest-pair w j i l r f g d e (pair-runs p q z) = unfold isRunning in ap₂ (λ (y z : State). over running false y z) (f p) (g q)
+rest-pair : (w : Way) (j : Join) (i : ℕ) (l r : Tree) {x : Status} {a b a′ b′ : State} → (AtRest l a′ → a ≡ a′) → (AtRest r b′ → b ≡ b′)
+    → states.drop a ≡ gone l → states.drop b ≡ gone r → AtRest (node w j i l r) (pairState x false a′ b′) → pairWith x false a b ≡ pairState x false a′ b′
+unfolding pairWith
+rest-pair w j i l r f g d e (pair-runs p q z) = unfold isRunning in ap₂ (λ (y z : State). pairState running false y z) (f p) (g q)
 rest-pair w j i l r {x} {a} {b} f g d e (pair-decided k p q) =
-    noded-over x false a b (decided-stops j x k) ∙ ap₂ (λ (y z : State). over x false y z) (d ∙ sym p) (e ∙ sym q)
+    pair-with-over x false a b (decided-stops j x k) ∙ ap₂ (λ (y z : State). pairState x false y z) (d ∙ sym p) (e ∙ sym q)
 
 -- the cell that a record of the saved state is
 abbrev loaded : Bytes → ℕ → Cell
 loaded bs i = record { status = statusOf (statusAt bs i); asked = false; offset = offsetAt bs i; counter = counterAt bs i }
 
-held-rest : (t : Tree) (bs : Bytes) (m : Mem) → ((i : ℕ) → T (holds t i) → m i ≡ loaded bs i) → Rest t (load t bs) → held t m ≡ load t bs
+held-rest : (t : Tree) (bs : Bytes) (m : Mem) → ((i : ℕ) → T (holds t i) → m i ≡ loaded bs i) → AtRest t (load t bs) → held t m ≡ load t bs
 unfolding held load
 held-rest (leaf i r c code) bs m h p =
-    ap (λ (x : Cell). leafed (x .status) (x .asked) (x .offset) (x .counter)) (h i (unfold holds in eqb-refl i)) ∙ rest-leaf i c r code p
-held-rest (trivial i) bs m h p = ap (λ (x : Cell). leafed (x .status) (x .asked) 0 0) (h i (unfold holds in eqb-refl i)) ∙ rest-trivial i p
-held-rest (unsatisfiable i) bs m h p = ap (λ (x : Cell). leafed (x .status) (x .asked) 0 0) (h i (unfold holds in eqb-refl i)) ∙ rest-unsatisfiable i p
+    ap (λ (x : Cell). leafWith (x .status) (x .asked) (x .offset) (x .counter)) (h i (unfold holds in eqb-refl i)) ∙ rest-leaf i c r code p
+held-rest (trivial i) bs m h p = ap (λ (x : Cell). leafWith (x .status) (x .asked) 0 0) (h i (unfold holds in eqb-refl i)) ∙ rest-trivial i p
+held-rest (unsatisfiable i) bs m h p = ap (λ (x : Cell). leafWith (x .status) (x .asked) 0 0) (h i (unfold holds in eqb-refl i)) ∙ rest-unsatisfiable i p
 held-rest (node w j i l r) bs m h p =
-    ap (λ (x : Cell). noded (x .status) (x .asked) (held l m) (held r m)) (h i (holds-here w j i l r))
+    ap (λ (x : Cell). pairWith (x .status) (x .asked) (held l m) (held r m)) (h i (holds-here w j i l r))
     ∙ rest-pair w j i l r (held-rest l bs m (λ k u. h k (holds-left w j i l r k u))) (held-rest r bs m (λ k u. h k (holds-right w j i l r k u)))
     (drop-held l m) (drop-held r m) p
 
@@ -114,9 +114,9 @@ module _ (bs : Bytes) (small : Small bs) (size : length bs ≡ stateSize) (i : �
 
 pub held-load : (policy state : Bytes) (ws : Words) → Passed policy → T (fits policy state) → length state ≡ stateSize → Small state
     → {n : ℕ} → n ≡ nodeCount policy → Woken n state ws
-    → held (tree policy) (view ws) ≡ load (tree policy) state
+    → held (tree policy) (memoryOf ws) ≡ load (tree policy) state
 held-load policy state ws ok fit size small e woken =
-    held-rest (tree policy) state (view ws)
+    held-rest (tree policy) state (memoryOf ws)
     (λ i u.
     let b : i < mostNodes = in-cells policy ok i u in
     let n : i < nodeCount policy = numbers-below-nodes policy ok i u in

@@ -1,4 +1,4 @@
--- A record of the saved state as one word, and the bytes that spell it. Assumes nothing.
+-- A record of the saved state as one word, and the bytes that spell it.
 use Prim.Native.Nat.{ℕ, zero, suc, _/_, _%_, _≤_, _<_}
 use native.Mathlib.Omega.{arith}
 use mathlib.Core.Path.{_≡_, refl, sym, ap, _∙_}
@@ -9,7 +9,7 @@ use Rattle.spec_policy.specs.Bytes.{spell}
 use Rattle.spec_turns.specs.Status.{Status, running, ended, endedLeft, endedRight, halted, dropped, statusNumber, statusOf, isRunning}
 use Rattle.spec_turns.specs.State.{status, offset, counter, leafOver}
 use Rattle.spec_turns.specs.Saved.{cell}
-use Rattle.turn_paths.specs.Memory.{leafed}
+use Rattle.turn_paths.specs.Memory.{leafWith}
 use Rattle.turn_memory.specs.Words.{packed}
 
 -- ---- the number of a status
@@ -92,8 +92,8 @@ number-less halted = omega arith
 number-less dropped = omega arith
 
 -- of a leaf that runs
-leaf-runs : (s : Status) (m : Bool) (o c : ℕ) → statusNumber s ≡ 1 → statusNumber s ∷ o ∷ 0 ∷ 0 ∷ spell 4 c ≡ cell (leafed s m o c)
-unfolding cell leafed leafOver isRunning statusNumber status offset counter
+leaf-runs : (s : Status) (m : Bool) (o c : ℕ) → statusNumber s ≡ 1 → statusNumber s ∷ o ∷ 0 ∷ 0 ∷ spell 4 c ≡ cell (leafWith s m o c)
+unfolding cell leafWith leafOver isRunning statusNumber status offset counter
 leaf-runs running m o c e = refl
 leaf-runs ended m o c e = absurd (omega arith)
 leaf-runs endedLeft m o c e = absurd (omega arith)
@@ -102,8 +102,8 @@ leaf-runs halted m o c e = absurd (omega arith)
 leaf-runs dropped m o c e = absurd (omega arith)
 
 -- of one that does not
-leaf-over : (s : Status) (m : Bool) (o c : ℕ) → (statusNumber s ≡ 1 → ⊥) → statusNumber s ∷ 0 ∷ 0 ∷ 0 ∷ spell 4 0 ≡ cell (leafed s m o c)
-unfolding cell leafed leafOver isRunning statusNumber status offset counter
+leaf-over : (s : Status) (m : Bool) (o c : ℕ) → (statusNumber s ≡ 1 → ⊥) → statusNumber s ∷ 0 ∷ 0 ∷ 0 ∷ spell 4 0 ≡ cell (leafWith s m o c)
+unfolding cell leafWith leafOver isRunning statusNumber status offset counter
 leaf-over running m o c e = absurd (e refl)
 leaf-over ended m o c e = refl
 leaf-over endedLeft m o c e = refl
@@ -112,8 +112,8 @@ leaf-over halted m o c e = refl
 leaf-over dropped m o c e = refl
 
 -- of a node that is no leaf
-bare-cell : (s : Status) (m : Bool) → statusNumber s ∷ 0 ∷ 0 ∷ 0 ∷ spell 4 0 ≡ cell (leafed s m 0 0)
-unfolding cell leafed leafOver isRunning statusNumber status offset counter
+bare-cell : (s : Status) (m : Bool) → statusNumber s ∷ 0 ∷ 0 ∷ 0 ∷ spell 4 0 ≡ cell (leafWith s m 0 0)
+unfolding cell leafWith leafOver isRunning statusNumber status offset counter
 bare-cell running m = refl
 bare-cell ended m = refl
 bare-cell endedLeft m = refl
@@ -128,11 +128,11 @@ module _ (s : Status) (m : Bool) {n : ℕ} (is : n ≡ statusNumber s) where
   spelt-bare : spell 8 (packed n 0 0 0) ≡ statusNumber s ∷ 0 ∷ 0 ∷ 0 ∷ spell 4 0
   spelt-bare = spell-packed n 0 0 small (omega arith) (omega arith) ∙ ap (λ (k : ℕ). k ∷ 0 ∷ 0 ∷ 0 ∷ spell 4 0) is
 
-  pub word-runs : (o c : ℕ) → o < 256 → c < 4294967296 → n ≡ 1 → spell 8 (packed n o 0 c) ≡ cell (leafed s m o c)
+  pub word-runs : (o c : ℕ) → o < 256 → c < 4294967296 → n ≡ 1 → spell 8 (packed n o 0 c) ≡ cell (leafWith s m o c)
   word-runs o c ho hc e = spell-packed n o c small ho hc ∙ ap (λ (k : ℕ). k ∷ o ∷ 0 ∷ 0 ∷ spell 4 c) is ∙ leaf-runs s m o c (sym is ∙ e)
 
-  pub word-over : (o c : ℕ) → (n ≡ 1 → ⊥) → spell 8 (packed n 0 0 0) ≡ cell (leafed s m o c)
+  pub word-over : (o c : ℕ) → (n ≡ 1 → ⊥) → spell 8 (packed n 0 0 0) ≡ cell (leafWith s m o c)
   word-over o c e = spelt-bare ∙ leaf-over s m o c (λ z. e (is ∙ z))
 
-  pub word-bare : spell 8 (packed n 0 0 0) ≡ cell (leafed s m 0 0)
+  pub word-bare : spell 8 (packed n 0 0 0) ≡ cell (leafWith s m 0 0)
   word-bare = spelt-bare ∙ bare-cell s m

@@ -1,4 +1,4 @@
--- What is saved of a node, and dropped under it, by the kind that the code read. Assumes nothing.
+-- What is saved of a node, and dropped under it, by the kind that the code read.
 use Prim.Native.Nat.{ℕ}
 use mathlib.Core.Path.{_≡_, refl, sym, ap, ap₂, _∙_}
 use mathlib.Core.Bool.{Bool}
@@ -19,7 +19,7 @@ use Rattle.file_records.specs.declared.Kind.{Kind}
 use Rattle.file_records.specs.declared.Kind.the-variants as kinds
 use Rattle.file_records.specs.declared.Way as ways
 use Rattle.file_records.specs.declared.Join as joins
-use Rattle.turn_memory.specs.Words.{Words, packed, view}
+use Rattle.turn_memory.specs.Words.{Words, packed, memoryOf}
 use Rattle.turn_rest.specs.Rest.{ownOf, droppedWord, sidesOver, underOf, recordAt, kindAt, runsAt, Rested}
 use Rattle.turn_rest.proofs.RecordLaws.{number-runs, word-bare}
 
@@ -43,28 +43,28 @@ module _ (file : Bytes) (i : ℕ) {p : ℕ} (place : p ≡ nodePlace i) (k : Kin
   kind-is e = sym (sym (ap kindOf e) ∙ read ∙ ap (λ (q : ℕ). nodeKind (nodeAt file q .kind)) place)
 
   -- of a kind whose word and whose rest are known
-  by-kind : (x : Kind) → k ≡ x → {ws′ : Words} {r : ℕ} → spell 8 r ≡ cell (ownOf (kindOf x) (view ws i))
+  by-kind : (x : Kind) → k ≡ x → {ws′ : Words} {r : ℕ} → spell 8 r ≡ cell (ownOf (kindOf x) (memoryOf ws i))
       → ws′ ≡ underOf (kindOf x) (runsAt ws i) (recordAt file i) ws → Rested file i ws ws′ r
   by-kind x e f g = record {
-    word = f ∙ ap (λ (q : NodeKind). cell (ownOf q (view ws i))) (sym (kind-is e));
+    word = f ∙ ap (λ (q : NodeKind). cell (ownOf q (memoryOf ws i))) (sym (kind-is e));
     under = g ∙ ap (λ (q : NodeKind). underOf q (runsAt ws i) (recordAt file i) ws) (sym (kind-is e));
   }
 
-  pub rests-leaf : k ≡ kinds.Leaf → {r : ℕ} → spell 8 r ≡ cell (ownOf aLeaf (view ws i)) → Rested file i ws ws r
+  pub rests-leaf : k ≡ kinds.Leaf → {r : ℕ} → spell 8 r ≡ cell (ownOf aLeaf (memoryOf ws i)) → Rested file i ws ws r
   unfolding kindOf underOf
   rests-leaf e f = by-kind kinds.Leaf e f refl
 
   -- by a status alone
-  module _ {n r : ℕ} (is : n ≡ statusNumber (view ws i .status)) (w : r ≡ packed n 0 0 0) where
-    bare : spell 8 r ≡ cell (ownOf (kindOf kinds.Trivial) (view ws i))
+  module _ {n r : ℕ} (is : n ≡ statusNumber (memoryOf ws i .status)) (w : r ≡ packed n 0 0 0) where
+    bare : spell 8 r ≡ cell (ownOf (kindOf kinds.Trivial) (memoryOf ws i))
     unfolding kindOf ownOf
-    bare = ap (spell 8) w ∙ word-bare (view ws i .status) (view ws i .asked) is
+    bare = ap (spell 8) w ∙ word-bare (memoryOf ws i .status) (memoryOf ws i .asked) is
 
     pub rests-pair : {v : ways.Way} {j : joins.Join} → k ≡ kinds.Pair v j → {ws′ : Words} → ws′ ≡ sidesOver (eqb n 1) (nodeAt file p) ws → Rested file i ws ws′ r
     unfolding kindOf ownOf underOf
     rests-pair {v} {j} e g =
         by-kind (kinds.Pair v j) e bare
-        (g ∙ ap₂ (λ (b : Bool) (x : Node). sidesOver b x ws) (ap (λ (m : ℕ). eqb m 1) is ∙ number-runs (view ws i .status)) (ap (nodeAt file) place))
+        (g ∙ ap₂ (λ (b : Bool) (x : Node). sidesOver b x ws) (ap (λ (m : ℕ). eqb m 1) is ∙ number-runs (memoryOf ws i .status)) (ap (nodeAt file) place))
 
     pub rests-other : OneOf (1 ∷ 2 ∷ 4 ∷ []) (tagOf the-type k) → Rested file i ws ws r
     unfolding kindOf ownOf underOf

@@ -1,5 +1,5 @@
 -- The records of the nodes, one after another: what is dropped under a decided node changes nothing of the state that the words hold.
--- Assumes nothing.
+--
 use Prim.Native.Nat.{ℕ, zero, suc, _+_, _≤_, _<_}
 use native.Mathlib.Omega.{arith}
 use native.Mathlib.Nat.{eq-or-lt-of-le}
@@ -12,21 +12,21 @@ use borrow.Author.Tests.{ne-eqb}
 use Rattle.actions.proofs.Tests.{no-of, or-cases, true-not-false}
 use Rattle.spec_policy.specs.Bytes.{Bytes, put}
 use Rattle.spec_policy.specs.Records.{mostNodes, nodeCount}
-use Rattle.spec_policy.specs.Tree.{Way, Join, NodeKind, aLeaf, aTrivial, anUnsatisfiable, aPair, noNode, Place, Tree, node, treeAt, tree}
+use Rattle.spec_policy.specs.Tree.{Way, Join, NodeKind, aLeaf, aTrivial, anUnsatisfiable, aPair, noNode, NodeSteps, Tree, node, treeAt, tree}
 use Rattle.spec_check.specs.Lawful.{holds, Numbered}
 use Rattle.spec_check.specs.Passed.{Passed}
 use Rattle.spec_check.specs.Numbers.{shaped, Distinct}
 use Rattle.spec_check.proofs.Numbers.{ChildrenLater, tree-read, children-read, tree-top, number-at, all-held}
 use Rattle.laws_check.proofs.LawfulTree.{lawful}
 use Rattle.spec_turns.specs.Status.{dropped, statusOf, isRunning}
-use Rattle.spec_turns.specs.State.{State, over, status, noded}
+use Rattle.spec_turns.specs.State.{State, pairState, status, pairWith}
 use Rattle.spec_turns.specs.Saved.{stateSize, cellPlace, cell}
 use Rattle.laws_turns.proofs.Cells.{lawful-apart, holds-left, holds-right, put-size, put-cell, put-elsewhere}
 use Rattle.laws_turns.specs.Cells.{cellAt}
 use Rattle.turn_paths.specs.Memory.{Cell, Mem, held}
-use Rattle.turn_paths.proofs.Begin.{drop-held, noded-over}
+use Rattle.turn_paths.proofs.Begin.{drop-held, pair-with-over}
 use Rattle.turn_paths.proofs.Frames.{same-or-not, own-number, held-same, not-left-of-right, not-right-of-left}
-use Rattle.turn_memory.specs.Words.{Words, wordCount, celled, view}
+use Rattle.turn_memory.specs.Words.{Words, wordCount, celled, memoryOf}
 use Rattle.turn_memory.proofs.CellLaws.{view-here, view-other}
 use Rattle.turn_tables.proofs.FileNodes.{room}
 use Rattle.turn_rest.specs.Rest.{ownOf, droppedWord, sidesOver, underOf, recordAt, kindAt, runsAt}
@@ -55,13 +55,13 @@ module _ (w : Way) (j : Join) (i : ℕ) (a b : Tree) (m m′ : Mem) (stops : isR
   unfolding held
   held-here sd =
       let own : m′ i ≡ m i = kept i (sd .not-left) (sd .not-right) in
-      ap (λ (x : Cell). noded (x .status) (x .asked) (held a m′) (held b m′)) own
-      ∙ noded-over (m i .status) (m i .asked) (held a m′) (held b m′) stops
-      ∙ ap₂ (over (m i .status) false) (drop-held a m′ ∙ sym (drop-held a m)) (drop-held b m′ ∙ sym (drop-held b m))
-      ∙ sym (noded-over (m i .status) (m i .asked) (held a m) (held b m) stops)
+      ap (λ (x : Cell). pairWith (x .status) (x .asked) (held a m′) (held b m′)) own
+      ∙ pair-with-over (m i .status) (m i .asked) (held a m′) (held b m′) stops
+      ∙ ap₂ (pairState (m i .status) false) (drop-held a m′ ∙ sym (drop-held a m)) (drop-held b m′ ∙ sym (drop-held b m))
+      ∙ sym (pair-with-over (m i .status) (m i .asked) (held a m) (held b m) stops)
 
-  noded-same : (n : ℕ) {x y x′ y′ : State} → m′ n ≡ m n → x′ ≡ x → y′ ≡ y → noded (m′ n .status) (m′ n .asked) x′ y′ ≡ noded (m n .status) (m n .asked) x y
-  noded-same n {x} {y} e p q = ap₂ (noded (m′ n .status) (m′ n .asked)) p q ∙ ap (λ (c : Cell). noded (c .status) (c .asked) x y) e
+  noded-same : (n : ℕ) {x y x′ y′ : State} → m′ n ≡ m n → x′ ≡ x → y′ ≡ y → pairWith (m′ n .status) (m′ n .asked) x′ y′ ≡ pairWith (m n .status) (m n .asked) x y
+  noded-same n {x} {y} e p q = ap₂ (pairWith (m′ n .status) (m′ n .asked)) p q ∙ ap (λ (c : Cell). pairWith (c .status) (c .asked) x y) e
 
   held-under : {t : Tree} → Distinct t → Has t (node w j i a b) → held t m′ ≡ held t m
   unfolding Distinct held
@@ -91,7 +91,7 @@ module _ {file : Bytes} (ok : Passed file) where
 
   -- What holds of a node's tree where it holds of its sides holds of every node's tree.
   module _ (P : Tree → Type 0)
-      (step : (i : ℕ) → i < n → (k : NodeKind) → kindAt file i ≡ k → (x : Place) → treeAt file i ≡ shaped k i x (leftTree i) (rightTree i)
+      (step : (i : ℕ) → i < n → (k : NodeKind) → kindAt file i ≡ k → (x : NodeSteps) → treeAt file i ≡ shaped k i x (leftTree i) (rightTree i)
       → ((w : Way) (j : Join) → k ≡ aPair w j → P (leftTree i) × P (rightTree i)) → P (shaped k i x (leftTree i) (rightTree i))) where
     each-from : (fuel i : ℕ) → i < n → n ≤ fuel + i → P (treeAt file i)
     each-from zero i h l = absurd (omega arith)
@@ -114,7 +114,7 @@ module _ {file : Bytes} (ok : Passed file) where
   has-own : (i : ℕ) (t : Tree) → treeAt file i ≡ t → (k : ℕ) → T (eqb i k) → Has t (treeAt file k)
   has-own i t e k u = subst (Has t) (sym e ∙ ap (treeAt file) (eqb→eq i k u)) here
 
-  has-step : (i : ℕ) → i < n → (k : NodeKind) → kindAt file i ≡ k → (x : Place) → treeAt file i ≡ shaped k i x (leftTree i) (rightTree i)
+  has-step : (i : ℕ) → i < n → (k : NodeKind) → kindAt file i ≡ k → (x : NodeSteps) → treeAt file i ≡ shaped k i x (leftTree i) (rightTree i)
       → ((w : Way) (j : Join) → k ≡ aPair w j → HasAll (leftTree i) × HasAll (rightTree i)) → HasAll (shaped k i x (leftTree i) (rightTree i))
   unfolding HasAll shaped holds
   has-step i h aLeaf q x e f = has-own i _ e
@@ -134,9 +134,9 @@ module _ {file : Bytes} (ok : Passed file) where
   -- what the step at node i changes of the words
   record Under (ws ws′ : Words) (i : ℕ) : Type 0 where
     size : length ws′ ≡ length ws
-    low : (k : ℕ) → k ≤ i → view ws′ k ≡ view ws k
-    some : (k : ℕ) → (view ws′ k ≡ view ws k) ⊎ (view ws′ k .status ≡ dropped)
-    same : held (tree file) (view ws′) ≡ held (tree file) (view ws)
+    low : (k : ℕ) → k ≤ i → memoryOf ws′ k ≡ memoryOf ws k
+    some : (k : ℕ) → (memoryOf ws′ k ≡ memoryOf ws k) ⊎ (memoryOf ws′ k .status ≡ dropped)
+    same : held (tree file) (memoryOf ws′) ≡ held (tree file) (memoryOf ws)
     sides : SidesDropped file ws′ i
 
   -- nothing
@@ -158,28 +158,28 @@ module _ {file : Bytes} (ok : Passed file) where
     later : ChildrenLater n i (recordAt file i)
     later = kids i h w j e
 
-    else-same : (k : ℕ) → (k ≡ a → ⊥) → (k ≡ b → ⊥) → view us k ≡ view ws k
+    else-same : (k : ℕ) → (k ≡ a → ⊥) → (k ≡ b → ⊥) → memoryOf us k ≡ memoryOf ws k
     else-same k p q = view-other (set ws a droppedWord) b droppedWord k q ∙ view-other ws a droppedWord k p
 
     drop-word : celled droppedWord .status ≡ dropped
     unfolding celled statusOf
     drop-word = refl
 
-    right-drops : view us b .status ≡ dropped
+    right-drops : memoryOf us b .status ≡ dropped
     right-drops =
         ap (λ (c : Cell). c .status) (view-here (set ws a droppedWord) b droppedWord (omega (arith, later .right-below, room ok .few)) (rw length-set (omega (arith, size, later .right-below, room ok .few)))) ∙ drop-word
 
-    left-drops : view us a .status ≡ dropped
+    left-drops : memoryOf us a .status ≡ dropped
     left-drops = ⊎-elim
-        (λ (z : a ≡ b). subst (λ (k : ℕ). view us k .status ≡ dropped) (sym z) right-drops)
+        (λ (z : a ≡ b). subst (λ (k : ℕ). memoryOf us k .status ≡ dropped) (sym z) right-drops)
         (λ (z : a ≡ b → ⊥). ap (λ (c : Cell). c .status) (view-other (set ws a droppedWord) b droppedWord a z
         ∙ view-here ws a droppedWord (omega (arith, later .left-below, room ok .few)) (omega (arith, size, later .left-below, room ok .few))) ∙ drop-word)
         (same-or-not a b)
 
-    some-drops : (k : ℕ) → (view us k ≡ view ws k) ⊎ (view us k .status ≡ dropped)
+    some-drops : (k : ℕ) → (memoryOf us k ≡ memoryOf ws k) ⊎ (memoryOf us k .status ≡ dropped)
     some-drops k = ⊎-elim
-        (λ (p : k ≡ a). inr (subst (λ (q : ℕ). view us q .status ≡ dropped) (sym p) left-drops))
-        (λ (p : k ≡ a → ⊥). ⊎-elim (λ (q : k ≡ b). inr (subst (λ (z : ℕ). view us z .status ≡ dropped) (sym q) right-drops)) (λ (q : k ≡ b → ⊥). inl (else-same k p q)) (same-or-not k b))
+        (λ (p : k ≡ a). inr (subst (λ (q : ℕ). memoryOf us q .status ≡ dropped) (sym p) left-drops))
+        (λ (p : k ≡ a → ⊥). ⊎-elim (λ (q : k ≡ b). inr (subst (λ (z : ℕ). memoryOf us z .status ≡ dropped) (sym q) right-drops)) (λ (q : k ≡ b → ⊥). inl (else-same k p q)) (same-or-not k b))
         (same-or-not k a)
 
     -- a node that neither side has is none of the two
@@ -195,7 +195,7 @@ module _ {file : Bytes} (ok : Passed file) where
       size = length-set (set ws a droppedWord) b droppedWord ∙ length-set ws a droppedWord;
       low = λ k l. else-same k (λ z. omega (arith, later .left-later)) (λ z. omega (arith, later .right-later));
       some = some-drops;
-      same = held-under w j i (leftTree i) (rightTree i) (view ws) (view us) stops (λ k p q. else-same k (not-side a k p) (not-side b k q))
+      same = held-under w j i (leftTree i) (rightTree i) (memoryOf ws) (memoryOf us) stops (λ k p q. else-same k (not-side a k p) (not-side b k q))
           (lawful-apart (tree file) (lawful file ok)) (subst (Has (tree file)) tree-is (has-node i h));
       sides = λ v g q z. (left-drops, right-drops);
     }
@@ -224,12 +224,12 @@ module _ {file : Bytes} (ok : Passed file) where
     swept-none state p q = record { most = omega arith; words = p; size = q; same = refl; sides = λ k h. absurd (omega arith); records = λ k h. absurd (omega arith) }
 
     pub swept-more : {ws ws′ : Words} {state state′ bytes : Bytes} {i : ℕ} → Swept file ws₀ ws state i → i < n
-        → ws′ ≡ underOf (kindAt file i) (runsAt ws i) (recordAt file i) ws → bytes ≡ cell (ownOf (kindAt file i) (view ws i)) → state′ ≡ put state (cellPlace i) bytes
+        → ws′ ≡ underOf (kindAt file i) (runsAt ws i) (recordAt file i) ws → bytes ≡ cell (ownOf (kindAt file i) (memoryOf ws i)) → state′ ≡ put state (cellPlace i) bytes
         → Swept file ws₀ ws′ state′ (i + 1)
     unfolding cellAt
     swept-more {ws} {ws′} {state} {state′} {bytes} {i} g h e f q =
         let u : Under ws ws′ i = subst (λ (us : Words). Under ws us i) (sym e) (under-by ws i h (g .words) (runsAt ws i) refl (kindAt file i) refl) in
-        let x : State = ownOf (kindAt file i) (view ws i) in
+        let x : State = ownOf (kindAt file i) (memoryOf ws i) in
         let p : state′ ≡ put state (cellPlace i) (cell x) = q ∙ ap (put state (cellPlace i)) f in
         let b : i < mostNodes = omega (arith, h, room ok .few) in
         record {
@@ -242,14 +242,14 @@ module _ {file : Bytes} (ok : Passed file) where
               (λ (z : k < i). still u (omega arith) (g .sides k z))
               (eq-or-lt-of-le (let v : k ≤ i = omega arith in v));
           records = λ k l. ⊎-elim
-              (λ (z : k ≡ i). subst (λ (y : ℕ). cellAt state′ y ≡ cell (ownOf (kindAt file y) (view ws′ y))) (sym z)
+              (λ (z : k ≡ i). subst (λ (y : ℕ). cellAt state′ y ≡ cell (ownOf (kindAt file y) (memoryOf ws′ y))) (sym z)
               (ap (λ (o : Bytes). cellAt o i) p ∙ put-cell state i x (g .size) b ∙ ap (λ (c : Cell). cell (ownOf (kindAt file i) c)) (sym (u .low i (omega arith)))))
               (λ (z : k < i). ap (λ (o : Bytes). cellAt o k) p ∙ put-elsewhere state i k x (g .size) b (ne-eqb i k (λ v. omega arith))
               ∙ g .records k z ∙ ap (λ (c : Cell). cell (ownOf (kindAt file k) c)) (sym (u .low k (omega arith))))
               (eq-or-lt-of-le (let v : k ≤ i = omega arith in v));
         }
       where
-        drops : {ws ws′ : Words} {i : ℕ} → Under ws ws′ i → (k : ℕ) → view ws k .status ≡ dropped → view ws′ k .status ≡ dropped
+        drops : {ws ws′ : Words} {i : ℕ} → Under ws ws′ i → (k : ℕ) → memoryOf ws k .status ≡ dropped → memoryOf ws′ k .status ≡ dropped
         drops u k d = ⊎-elim (λ z. ap (λ (c : Cell). c .status) z ∙ d) (λ z. z) (u .some k)
 
         still : {ws ws′ : Words} {i k : ℕ} → Under ws ws′ i → k ≤ i → SidesDropped file ws k → SidesDropped file ws′ k

@@ -1,4 +1,4 @@
--- The saved state at a call's end: once every record is written, each is what the state has of its node, and zeros follow. Assumes nothing.
+-- The saved state at a call's end: once every record is written, each is what the state has of its node, and zeros follow.
 use Prim.Native.Nat.{ℕ, zero, _+_, _-_, _*_, _<_}
 use native.Mathlib.Omega.{arith}
 use mathlib.Core.Path.{_≡_, refl, sym, ap, _∙_, subst}
@@ -9,23 +9,23 @@ use lib.Seq.{drop-at, length-take-le}
 use Rattle.spec_policy.specs.Bytes.{Bytes, put}
 use Rattle.spec_policy.proofs.ByteLaws.{part-before, zeros-are}
 use Rattle.spec_policy.specs.Records.{nodeCount}
-use Rattle.spec_policy.specs.Tree.{Way, Join, NodeKind, aLeaf, aTrivial, anUnsatisfiable, aPair, noNode, Place, Tree, leaf, trivial, unsatisfiable, node, numberOf, treeAt, tree}
+use Rattle.spec_policy.specs.Tree.{Way, Join, NodeKind, aLeaf, aTrivial, anUnsatisfiable, aPair, noNode, NodeSteps, Tree, leaf, trivial, unsatisfiable, node, numberOf, treeAt, tree}
 use Rattle.spec_check.specs.Passed.{Passed}
 use Rattle.spec_check.specs.Numbers.{shaped}
 use Rattle.spec_check.proofs.Numbers.{number-at, all-held}
 use Rattle.laws_check.proofs.LawfulTree.{lawful, numbers-below-nodes}
 use Rattle.spec_turns.specs.Status.{Status, dropped, isRunning}
 use Rattle.spec_turns.specs.State as states
-use Rattle.spec_turns.specs.State.{State, at, over, status, offset, counter, leftOf, rightOf, leafOver, noded}
+use Rattle.spec_turns.specs.State.{State, leafState, pairState, status, offset, counter, leftOf, rightOf, leafOver, pairWith}
 use Rattle.spec_turns.specs.Saved.{cellSize, cellPlace, cell, saved}
 use Rattle.spec_turns.specs.Rest.{gone}
 use Rattle.laws_turns.proofs.Cells.{lawful-apart, Kept, kept-same, cells-same, saved-length, saved-kept}
 use Rattle.laws_turns.specs.Cells.{cellAt}
 use Rattle.laws_turns.proofs.Fits.{saved-tail}
 use Rattle.laws_turns.proofs.Lasting.{in-cells}
-use Rattle.turn_paths.specs.Memory.{Mem, leafed, held}
-use Rattle.turn_paths.proofs.Begin.{drop-held, noded-over, left-held, right-held}
-use Rattle.turn_memory.specs.Words.{Words, view}
+use Rattle.turn_paths.specs.Memory.{Mem, leafWith, held}
+use Rattle.turn_paths.proofs.Begin.{drop-held, pair-with-over, left-held, right-held}
+use Rattle.turn_memory.specs.Words.{Words, memoryOf}
 use Rattle.turn_tables.proofs.FileNodes.{room}
 use Rattle.turn_rest.specs.Rest.{ownOf, recordAt, kindAt}
 use Rattle.turn_rest.specs.Swept.{Swept}
@@ -35,27 +35,27 @@ use Rattle.turn_rest.proofs.SweepLaws.{leftTree, rightTree, each-root}
 
 -- the records of a tree's nodes, and what is dropped under them
 unfoldable Laid : Tree → Mem → Bytes → Type 0
-Laid (leaf i r c code) m out = cellAt out i ≡ cell (leafed (m i .status) (m i .asked) (m i .offset) (m i .counter))
-Laid (trivial i) m out = cellAt out i ≡ cell (leafed (m i .status) (m i .asked) 0 0)
-Laid (unsatisfiable i) m out = cellAt out i ≡ cell (leafed (m i .status) (m i .asked) 0 0)
+Laid (leaf i r c code) m out = cellAt out i ≡ cell (leafWith (m i .status) (m i .asked) (m i .offset) (m i .counter))
+Laid (trivial i) m out = cellAt out i ≡ cell (leafWith (m i .status) (m i .asked) 0 0)
+Laid (unsatisfiable i) m out = cellAt out i ≡ cell (leafWith (m i .status) (m i .asked) 0 0)
 Laid (node w j i l r) m out =
-    (cellAt out i ≡ cell (leafed (m i .status) (m i .asked) 0 0))
+    (cellAt out i ≡ cell (leafWith (m i .status) (m i .asked) 0 0))
     × (isRunning (m i .status) ≡ false → (m (numberOf l) .status ≡ dropped) × (m (numberOf r) .status ≡ dropped))
     × Laid l m out
     × Laid r m out
 
 -- a pair's record has its status alone
-noded-cell : (s : Status) (m : Bool) (a b : State) → cell (leafed s m 0 0) ≡ cell (noded s m a b)
-unfolding cell leafed noded leafOver status offset counter
+noded-cell : (s : Status) (m : Bool) (a b : State) → cell (leafWith s m 0 0) ≡ cell (pairWith s m a b)
+unfolding cell leafWith pairWith leafOver status offset counter
 noded-cell s m a b = go (isRunning s)
   where
-    go : (x : Bool) → cell (elim x [ true ↦ at s m 0 0 | false ↦ leafOver s ]) ≡ cell (elim x [ true ↦ over s m a b | false ↦ over s false (states.drop a) (states.drop b) ])
+    go : (x : Bool) → cell (elim x [ true ↦ leafState s m 0 0 | false ↦ leafOver s ]) ≡ cell (elim x [ true ↦ pairState s m a b | false ↦ pairState s false (states.drop a) (states.drop b) ])
     go true = refl
     go false = refl
 
-dropped-cell : (s : Status) (m : Bool) (o c : ℕ) → s ≡ dropped → cell (leafed s m o c) ≡ cell (at dropped false 0 0)
-unfolding leafed leafOver isRunning
-dropped-cell s m o c e = ap (λ (x : Status). cell (leafed x m o c)) e
+dropped-cell : (s : Status) (m : Bool) (o c : ℕ) → s ≡ dropped → cell (leafWith s m o c) ≡ cell (leafState dropped false 0 0)
+unfolding leafWith leafOver isRunning
+dropped-cell s m o c e = ap (λ (x : Status). cell (leafWith x m o c)) e
 
 module _ (m : Mem) (out : Bytes) where
   -- under a node that is dropped all is
@@ -79,8 +79,8 @@ module _ (m : Mem) (out : Bytes) where
       (subst (λ (s : State). Kept l s out) (sym (left-held w j i l r m e)) x, subst (λ (s : State). Kept r s out) (sym (right-held w j i l r m e)) y)
   laid-sides w j i l r h x y false e =
       let z = h .1 e in
-      let v : held (node w j i l r) m ≡ over (m i .status) false (states.drop (held l m)) (states.drop (held r m)) =
-      unfold held in noded-over (m i .status) (m i .asked) (held l m) (held r m) e in
+      let v : held (node w j i l r) m ≡ pairState (m i .status) false (states.drop (held l m)) (states.drop (held r m)) =
+      unfold held in pair-with-over (m i .status) (m i .asked) (held l m) (held r m) e in
       let a : leftOf (held (node w j i l r) m) ≡ gone l = ap leftOf v ∙ unfold leftOf in drop-held l m in
       let b : rightOf (held (node w j i l r) m) ≡ gone r = ap rightOf v ∙ unfold rightOf in drop-held r m in
       (subst (λ (s : State). Kept l s out) (sym a) (laid-gone l (h .2) (z .0)), subst (λ (s : State). Kept r s out) (sym b) (laid-gone r (h .3) (z .1)))
@@ -97,37 +97,37 @@ module _ (m : Mem) (out : Bytes) where
 -- ---- the whole state
 
 module _ {file : Bytes} (ok : Passed file) {ws₀ ws : Words} {state : Bytes} (g : Swept file ws₀ ws state (nodeCount file)) where
-  laid-step : (i : ℕ) → i < nodeCount file → (k : NodeKind) → kindAt file i ≡ k → (x : Place)
+  laid-step : (i : ℕ) → i < nodeCount file → (k : NodeKind) → kindAt file i ≡ k → (x : NodeSteps)
       → treeAt file i ≡ shaped k i x (leftTree ok i) (rightTree ok i)
-      → ((w : Way) (j : Join) → k ≡ aPair w j → Laid (leftTree ok i) (view ws) state × Laid (rightTree ok i) (view ws) state)
-      → Laid (shaped k i x (leftTree ok i) (rightTree ok i)) (view ws) state
+      → ((w : Way) (j : Join) → k ≡ aPair w j → Laid (leftTree ok i) (memoryOf ws) state × Laid (rightTree ok i) (memoryOf ws) state)
+      → Laid (shaped k i x (leftTree ok i) (rightTree ok i)) (memoryOf ws) state
   unfolding shaped Laid ownOf cellAt
-  laid-step i h aLeaf e x q f = g .records i h ∙ ap (λ (k : NodeKind). cell (ownOf k (view ws i))) e
-  laid-step i h aTrivial e x q f = g .records i h ∙ ap (λ (k : NodeKind). cell (ownOf k (view ws i))) e
-  laid-step i h anUnsatisfiable e x q f = g .records i h ∙ ap (λ (k : NodeKind). cell (ownOf k (view ws i))) e
-  laid-step i h noNode e x q f = g .records i h ∙ ap (λ (k : NodeKind). cell (ownOf k (view ws i))) e
+  laid-step i h aLeaf e x q f = g .records i h ∙ ap (λ (k : NodeKind). cell (ownOf k (memoryOf ws i))) e
+  laid-step i h aTrivial e x q f = g .records i h ∙ ap (λ (k : NodeKind). cell (ownOf k (memoryOf ws i))) e
+  laid-step i h anUnsatisfiable e x q f = g .records i h ∙ ap (λ (k : NodeKind). cell (ownOf k (memoryOf ws i))) e
+  laid-step i h noNode e x q f = g .records i h ∙ ap (λ (k : NodeKind). cell (ownOf k (memoryOf ws i))) e
   laid-step i h (aPair w j) e x q f = (
-    g .records i h ∙ ap (λ (k : NodeKind). cell (ownOf k (view ws i))) e,
+    g .records i h ∙ ap (λ (k : NodeKind). cell (ownOf k (memoryOf ws i))) e,
     λ z.
         let v = g .sides i h w j e z in (
-          ap (λ (k : ℕ). view ws k .status) (number-at file (recordAt file i .left)) ∙ v .0,
-          ap (λ (k : ℕ). view ws k .status) (number-at file (recordAt file i .right)) ∙ v .1,
+          ap (λ (k : ℕ). memoryOf ws k .status) (number-at file (recordAt file i .left)) ∙ v .0,
+          ap (λ (k : ℕ). memoryOf ws k .status) (number-at file (recordAt file i .right)) ∙ v .1,
         ),
     f w j refl .0,
     f w j refl .1,
   )
 
   -- the bytes are those of the state that the words held
-  swept-kept : Kept (tree file) (held (tree file) (view ws₀)) state
+  swept-kept : Kept (tree file) (held (tree file) (memoryOf ws₀)) state
   swept-kept =
       subst (λ (s : State). Kept (tree file) s state) (g .same)
-      (laid-kept (view ws) state (tree file) (each-root ok (λ t. Laid t (view ws) state) laid-step))
+      (laid-kept (memoryOf ws) state (tree file) (each-root ok (λ t. Laid t (memoryOf ws) state) laid-step))
 
   abbrev t : Tree
   t = tree file
 
   abbrev s : State
-  s = held (tree file) (view ws₀)
+  s = held (tree file) (memoryOf ws₀)
 
   abbrev count : ℕ
   count = nodeCount file
@@ -162,6 +162,6 @@ module _ {file : Bytes} (ok : Passed file) {ws₀ ws : Words} {state : Bytes} (g
 
 -- zeros are written after the records
 pub tidied : {file : Bytes} → Passed file → {n : ℕ} → n ≡ nodeCount file → {ws₀ ws : Words} {state out : Bytes} → Swept file ws₀ ws state n
-    → out ≡ put state (cellPlace n) (replicate (length state - cellPlace n) 0) → out ≡ saved (tree file) (held (tree file) (view ws₀))
+    → out ≡ put state (cellPlace n) (replicate (length state - cellPlace n) 0) → out ≡ saved (tree file) (held (tree file) (memoryOf ws₀))
 tidied {file} ok e {ws₀} {ws} {state} g h =
     h ∙ ap (λ (k : ℕ). put state (cellPlace k) (replicate (length state - cellPlace k) 0)) e ∙ all-tidied ok (subst (Swept file ws₀ ws state) e g)

@@ -1,4 +1,4 @@
--- The memory of a call at its begin and its end: what is read into it, what it leaves, and what of a node is saved. Assumes nothing.
+-- The memory of a call at its begin and its end: what is read into it, what it leaves, and what of a node is saved.
 use Prim.Native.Nat.{ℕ, _≤_, _<_}
 use mathlib.Core.Path.{_≡_}
 use mathlib.Core.Bool.{Bool, true, false}
@@ -9,8 +9,8 @@ use Rattle.spec_policy.specs.Tree.{NodeKind, aLeaf, aTrivial, anUnsatisfiable, 
 use Rattle.spec_turns.specs.Status.{isRunning}
 use Rattle.spec_turns.specs.State.{State}
 use Rattle.spec_turns.specs.Saved.{cellSize, cellPlace, cell}
-use Rattle.turn_paths.specs.Memory.{Cell, leafed}
-use Rattle.turn_memory.specs.Words.{Words, packed, view}
+use Rattle.turn_paths.specs.Memory.{Cell, leafWith}
+use Rattle.turn_memory.specs.Words.{Words, packed, memoryOf}
 
 -- the words from n on are as they were
 pub record KeptFrom (n : ℕ) (ws ws′ : Words) : Type 0 where
@@ -25,11 +25,11 @@ Woken n state ws = (i : ℕ) → i < n → getD ws i 0 ≡ number state (cellPla
 
 -- what is saved of a node's cell: of a leaf that runs its place, of every other node its status alone
 unfoldable pub ownOf : NodeKind → Cell → State
-ownOf aLeaf c = leafed (c .status) (c .asked) (c .offset) (c .counter)
-ownOf aTrivial c = leafed (c .status) (c .asked) 0 0
-ownOf anUnsatisfiable c = leafed (c .status) (c .asked) 0 0
-ownOf noNode c = leafed (c .status) (c .asked) 0 0
-ownOf (aPair w j) c = leafed (c .status) (c .asked) 0 0
+ownOf aLeaf c = leafWith (c .status) (c .asked) (c .offset) (c .counter)
+ownOf aTrivial c = leafWith (c .status) (c .asked) 0 0
+ownOf anUnsatisfiable c = leafWith (c .status) (c .asked) 0 0
+ownOf noNode c = leafWith (c .status) (c .asked) 0 0
+ownOf (aPair w j) c = leafWith (c .status) (c .asked) 0 0
 
 -- the word of a dropped node
 abbrev pub droppedWord : ℕ
@@ -56,9 +56,9 @@ abbrev pub kindAt : Bytes → ℕ → NodeKind
 kindAt file i = nodeKind (recordAt file i .kind)
 
 abbrev pub runsAt : Words → ℕ → Bool
-runsAt ws i = isRunning (view ws i .status)
+runsAt ws i = isRunning (memoryOf ws i .status)
 
 -- what is saved of node i is this word, and the words become these
 pub record Rested (file : Bytes) (i : ℕ) (ws ws′ : Words) (r : ℕ) : Type 0 where
-  pub word : spell 8 r ≡ cell (ownOf (kindAt file i) (view ws i))
+  pub word : spell 8 r ≡ cell (ownOf (kindAt file i) (memoryOf ws i))
   pub under : ws′ ≡ underOf (kindAt file i) (runsAt ws i) (recordAt file i) ws

@@ -1,4 +1,4 @@
--- The records of the nodes below i are written, and what lies just under a decided one of them is dropped. Assumes nothing.
+-- The records of the nodes below i are written, and what lies just under a decided one of them is dropped.
 use Prim.Native.Nat.{ℕ, _≤_, _<_}
 use mathlib.Core.Path.{_≡_}
 use mathlib.Core.Bool.{false}
@@ -9,20 +9,20 @@ use Rattle.spec_policy.specs.Tree.{Way, Join, aPair, tree}
 use Rattle.spec_turns.specs.Status.{dropped}
 use Rattle.spec_turns.specs.Saved.{cellSize, stateSize, cellPlace, cell}
 use Rattle.turn_paths.specs.Memory.{held}
-use Rattle.turn_memory.specs.Words.{Words, wordCount, view}
+use Rattle.turn_memory.specs.Words.{Words, wordCount, memoryOf}
 use Rattle.turn_rest.specs.Rest.{ownOf, recordAt, kindAt, runsAt}
 
 -- the sides of node p are dropped, if it is a decided pair
 abbrev pub SidesDropped : Bytes → Words → ℕ → Type 0
 SidesDropped file ws p =
     (w : Way) (j : Join) → kindAt file p ≡ aPair w j → runsAt ws p ≡ false
-    → (view ws (recordAt file p .left) .status ≡ dropped) × (view ws (recordAt file p .right) .status ≡ dropped)
+    → (memoryOf ws (recordAt file p .left) .status ≡ dropped) × (memoryOf ws (recordAt file p .right) .status ≡ dropped)
 
 -- ws₀: the words as the call left them
 pub record Swept (file : Bytes) (ws₀ ws : Words) (state : Bytes) (i : ℕ) : Type 0 where
   pub most : i ≤ nodeCount file
   pub words : length ws ≡ wordCount
   pub size : length state ≡ stateSize
-  pub same : held (tree file) (view ws) ≡ held (tree file) (view ws₀)
+  pub same : held (tree file) (memoryOf ws) ≡ held (tree file) (memoryOf ws₀)
   pub sides : (p : ℕ) → p < i → SidesDropped file ws p
-  pub records : (k : ℕ) → k < i → take cellSize (drop (cellPlace k) state) ≡ cell (ownOf (kindAt file k) (view ws k))
+  pub records : (k : ℕ) → k < i → take cellSize (drop (cellPlace k) state) ≡ cell (ownOf (kindAt file k) (memoryOf ws k))

@@ -11,13 +11,14 @@ ghost use Rattle.spec_check.specs.Passed.{Passed};
 ghost use Rattle.spec_turns.specs.Status.{statusNumber, statusOf};
 ghost use Rattle.spec_turns.specs.Saved.{stateSize, cell, saved};
 ghost use Rattle.turn_paths.specs.Memory.{held};
-ghost use Rattle.turn_memory.specs.Words.{wordCount, view};
+ghost use Rattle.turn_memory.specs.Words.{wordCount, memoryOf};
 ghost use Rattle.turn_rest.specs.Rest.{ownOf, sidesOver, Rested};
 ghost use Rattle.turn_rest.specs.Swept.{Swept};
 use file_records::Kind;
 use file_view::view_kind;
 use file_view::view_left;
 use file_view::view_right;
+use turn_memory::WORDS;
 use turn_memory::cell;
 use turn_memory::counter_at;
 use turn_memory::offset_at;
@@ -42,9 +43,9 @@ fn standing(status: u8) -> u8
 }
 
 // A leaf that does not run has offset and counter zero.
-fn leaf_word(mem: &[u64; 157], node: usize, status: u8) -> u64
-    requires { ⌜ (node < mostNodes) × (status ≡ statusNumber (view (now mem) node .status)) ⌝ }
-    ensures { λ r. ⌜ spell 8 r ≡ cell (ownOf aLeaf (view (now (mem .entry)) node)) ⌝ }
+fn leaf_word(mem: &[u64; WORDS], node: usize, status: u8) -> u64
+    requires { ⌜ (node < mostNodes) × (status ≡ statusNumber (memoryOf (now mem) node .status)) ⌝ }
+    ensures { λ r. ⌜ spell 8 r ≡ cell (ownOf aLeaf (memoryOf (now (mem .entry)) node)) ⌝ }
 {
     if status != RUNNING {
         return cell(status, 0, 0, 0);
@@ -53,7 +54,7 @@ fn leaf_word(mem: &[u64; 157], node: usize, status: u8) -> u64
 }
 
 // The sides of the pair, dropped where it does not run.
-fn drop_sides(policy: &[u8], mem: &mut [u64; 157], node: usize, status: u8)
+fn drop_sides(policy: &[u8], mem: &mut [u64; WORDS], node: usize, status: u8)
     requires { ⌜ (node ≤ 255) × (nodePlace node + nodeSize ≤ length (now policy)) ⌝ }
     requires { let x = nodeAt (now policy) (nodePlace node) in ⌜ (x .left < wordCount) × (x .right < wordCount) ⌝ }
     ensures { λ _. ⌜ now (mem .exit) ≡ sidesOver (eqb status 1) (nodeAt (now (policy .entry)) (nodePlace node)) (now (mem .entry)) ⌝ }
@@ -66,7 +67,7 @@ fn drop_sides(policy: &[u8], mem: &mut [u64; 157], node: usize, status: u8)
 }
 
 // The word that is saved of a node; and its sides are dropped where it is decided.
-fn rest(policy: &[u8], node: usize, mem: &mut [u64; 157]) -> u64
+fn rest(policy: &[u8], node: usize, mem: &mut [u64; WORDS]) -> u64
     requires { ⌜ (Passed (now policy) × (node < nodeCount (now policy))) × (length (now mem) ≡ wordCount) ⌝ }
     ensures { λ r. ⌜ Rested (now (policy .entry)) node (now (mem .entry)) (now (mem .exit)) r ⌝ }
 {
@@ -83,7 +84,7 @@ fn rest(policy: &[u8], node: usize, mem: &mut [u64; 157]) -> u64
 }
 
 // The records of the nodes.
-fn sweep(policy: &[u8], n: usize, mem: &mut [u64; 157], state: &mut [u8])
+fn sweep(policy: &[u8], n: usize, mem: &mut [u64; WORDS], state: &mut [u8])
     requires { ⌜ Passed (now policy) × (n ≡ nodeCount (now policy)) ⌝ }
     requires { ⌜ (length (now mem) ≡ wordCount) × (length (now state) ≡ stateSize) ⌝ }
     ensures { λ _. ⌜ Swept (now (policy .entry)) (now (mem .entry)) (now (mem .exit)) (now (state .exit)) n ⌝ }
@@ -97,10 +98,10 @@ fn sweep(policy: &[u8], n: usize, mem: &mut [u64; 157], state: &mut [u8])
 }
 
 // The saved state at a call's end, every byte of it.
-pub fn tidy(policy: &[u8], n: usize, mem: &mut [u64; 157], state: &mut [u8])
+pub fn tidy(policy: &[u8], n: usize, mem: &mut [u64; WORDS], state: &mut [u8])
     requires { ⌜ Passed (now policy) × (n ≡ nodeCount (now policy)) ⌝ }
     requires { ⌜ (length (now mem) ≡ wordCount) × (length (now state) ≡ stateSize) ⌝ }
-    ensures { λ _. ⌜ now (state .exit) ≡ saved (tree (now (policy .entry))) (held (tree (now (policy .entry))) (view (now (mem .entry)))) ⌝ }
+    ensures { λ _. ⌜ now (state .exit) ≡ saved (tree (now (policy .entry))) (held (tree (now (policy .entry))) (memoryOf (now (mem .entry)))) ⌝ }
     ensures { λ _. ⌜ length (now (mem .exit)) ≡ wordCount ⌝ }
 {
     sweep(policy, n, mem, state);

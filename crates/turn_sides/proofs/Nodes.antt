@@ -1,9 +1,9 @@
--- A node with two sides in the file: where its sides lie, and the tree that it is. Assumes nothing.
+-- A node with two sides in the file: where its sides lie, and the tree that it is.
 use Prim.Native.Nat.{ℕ, _≤_, _<_}
 use native.Mathlib.Omega.{arith}
 use mathlib.Core.Path.{_≡_, refl}
 use Rattle.spec_policy.specs.Bytes.{Bytes}
-use Rattle.spec_policy.specs.Records.{nodePlace, rowPlace, nodeAt, nodeCount}
+use Rattle.spec_policy.specs.Records.{nodePlace, stepPlace, nodeAt, nodeCount}
 use Rattle.spec_policy.specs.Tree.{node, treeAt}
 use Rattle.spec_check.specs.Lawful.{Numbered}
 use Rattle.spec_check.specs.Numbers.{shaped}
@@ -15,7 +15,7 @@ use Rattle.turn_sides.specs.Sides.{kindAt, leftAt, rightAt, joinAt, wayA
 
 module _ (policy : Bytes) (ok : Passed policy) (i : ℕ) (h : i < nodeCount policy) where
   pub placed : Placed policy i
-  unfolding nodePlace rowPlace
+  unfolding nodePlace stepPlace
   placed = let c : CountsFit policy = counts-fit policy (ok .kept3) in (omega (arith, c .few-nodes), omega (arith, c .long))
 
   pub few-nodes : nodeCount policy ≤ 31

@@ -1,4 +1,4 @@
--- The code's choices on a status or two. Assumes nothing.
+-- The code's choices on a status or two.
 use Prim.Native.Nat.{ℕ, _≤_, _<_}
 use mathlib.Core.Path.{_≡_, refl, ap, ap₂, _∙_}
 use mathlib.Core.Bool.{Bool, true, false, _&&_, _||_, not}

@@ -1,4 +1,4 @@
--- A node's record in the file, and a node with two sides. Assumes nothing.
+-- A node's record in the file, and a node with two sides.
 use Prim.Native.Nat.{ℕ, _+_, _≤_, _<_}
 use mathlib.Core.Path.{_≡_}
 use lib.ListN.{length}

@@ -5,10 +5,10 @@ ghost use lib.Dec.{eqb};
 ghost use lib.ListN.{getD};
 ghost use Rattle.spec_policy.specs.Records.{mostNodes};
 ghost use Rattle.spec_policy.specs.Tree.{and, or};
-ghost use Rattle.spec_turns.specs.Status.{statusOf, isRunning, joined};
+ghost use Rattle.spec_turns.specs.Status.{statusOf, joined};
 ghost use Rattle.spec_turns.specs.Turn.{stillAsked};
 ghost use Rattle.file_records.specs.Kinds.{joinOf};
-ghost use Rattle.turn_memory.specs.Words.{setPlace, view};
+ghost use Rattle.turn_memory.specs.Words.{setPlace, memoryOf};
 ghost use Rattle.turn_memory.specs.Phases.{afterNumber, phaseOf};
 ghost use Rattle.turn_paths.specs.Choices.{emits, goesOn, endSup, askedIn, joinedIn};
 ghost use Rattle.turn_sides.specs.Sides.{leftAt, rightAt, joinAt, Placed, Sided};
@@ -18,15 +18,19 @@ use file_records::Kind;
 use file_view::view_kind;
 use file_view::view_left;
 use file_view::view_right;
+use turn_memory::AFTER;
+use turn_memory::SETS;
+use turn_memory::WORDS;
 use turn_memory::mark_at;
 use turn_memory::status_at;
-pub use turn_state::ENDED;
+use turn_state::ENDED;
 use turn_state::ENDED_LEFT;
 use turn_state::ENDED_RIGHT;
-pub use turn_state::HALTED;
+use turn_state::HALTED;
 use turn_state::RUNNING;
 use turn_state::has_ended;
 use turn_state::is_halted;
+use turn_state::is_running;
 
 // ---- a node's record
 
@@ -59,18 +63,6 @@ pub fn join_of(policy: &[u8], node: usize) -> Join
 }
 
 // ---- statuses
-
-// The phase after the verdict, as a number: see turn_memory.
-pub const AFTER: u8 = 64;
-
-const SETS: usize = 64;
-
-// For turn_node, which has it from here: turn_state's.
-pub fn is_running(s: u8) -> bool
-    ensures { λ r. ⌜ r ≡ isRunning (statusOf s) ⌝ }
-{
-    turn_state::is_running(s)
-}
 
 // "And": halted once a side has halted; ended once both have ended.
 fn join_and(l: u8, r: u8) -> u8
@@ -175,9 +167,9 @@ pub fn mark_of(phase: u8) -> u8
 // ---- what a node's cell tells
 
 // "Only a running node that regulates a is asked"; after the verdict one that was asked before it; at closing every one that runs.
-pub fn is_asked(mem: &[u64; 157], node: usize, phase: u8) -> bool
+pub fn is_asked(mem: &[u64; WORDS], node: usize, phase: u8) -> bool
     requires { ⌜ node < mostNodes ⌝ }
-    ensures { λ r. ⌜ r ≡ askedIn (getD (now (mem .entry)) (setPlace + node) 0) (phaseOf phase) (view (now (mem .entry)) node) ⌝ }
+    ensures { λ r. ⌜ r ≡ askedIn (getD (now (mem .entry)) (setPlace + node) 0) (phaseOf phase) (memoryOf (now (mem .entry)) node) ⌝ }
 {
     if !is_running(status_at(mem, node)) {
         return false;
@@ -195,9 +187,9 @@ pub fn is_asked(mem: &[u64; 157], node: usize, phase: u8) -> bool
 }
 
 // The status that a node's sides give it.
-pub fn joined_at(policy: &[u8], mem: &[u64; 157], node: usize) -> u8
+pub fn joined_at(policy: &[u8], mem: &[u64; WORDS], node: usize) -> u8
     requires { ⌜ Sided (now policy) node ⌝ }
-    ensures { λ r. ⌜ statusOf r ≡ joinedIn (joinAt (now (policy .entry)) node) (leftAt (now (policy .entry)) node) (rightAt (now (policy .entry)) node) (view (now (mem .entry))) ⌝ }
+    ensures { λ r. ⌜ statusOf r ≡ joinedIn (joinAt (now (policy .entry)) node) (leftAt (now (policy .entry)) node) (rightAt (now (policy .entry)) node) (memoryOf (now (mem .entry))) ⌝ }
 {
     let left = status_at(mem, left_of(policy, node));
     let right = status_at(mem, right_of(policy, node));

@@ -1,4 +1,4 @@
--- A word written as the eight bytes of a record. Assumes nothing.
+-- A word written as the eight bytes of a record.
 use Prim.Native.Nat.{ℕ, suc, _+_, _*_, _/_, _%_, _<_}
 use native.Mathlib.Omega.{arith}
 use native.Mathlib.Nat.{div-one}

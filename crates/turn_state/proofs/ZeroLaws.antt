@@ -1,4 +1,4 @@
--- Zeros of the state: bytes joined are zero where all are, and zeros written from a place on. Assumes nothing.
+-- Zeros of the state: bytes joined are zero where all are, and zeros written from a place on.
 use Prim.Native.Nat.{ℕ, zero, suc, _+_, _-_, _*_, _≤_, _<_}
 use native.Mathlib.Omega.{arith}
 use native.Mathlib.Numerals.{add-one}

@@ -9,6 +9,7 @@ ghost use Rattle.spec_policy.specs.Lists.{every};
 ghost use Rattle.spec_policy.specs.Records.{mostNodes};
 ghost use Rattle.spec_turns.specs.Status.{statusOf, isRunning, hasEnded, isHalted};
 ghost use Rattle.spec_turns.specs.Saved.{cellSize, stateSize, cellPlace, statusAt, offsetAt, zerosAt, counterAt};
+use file_records::MOST_NODES;
 use file_records::byte;
 use file_records::word16;
 use file_records::word32;
@@ -51,7 +52,7 @@ pub fn is_halted(s: u8) -> bool
 // "8 per node number: status, offset, two zeros, counter (4)."
 pub const CELL_SIZE: usize = 8;
 
-pub const STATE_SIZE: usize = CELL_SIZE * 31;
+pub const STATE_SIZE: usize = CELL_SIZE * MOST_NODES;
 
 pub fn saved_status(state: &[u8], node: usize) -> u8
     requires { ⌜ (length (now state) ≡ stateSize) × (node < mostNodes) ⌝ }

@@ -1,4 +1,4 @@
--- One entry of the tables: what is read back of it, and that the other words stay. Assumes nothing.
+-- One entry of the tables: what is read back of it, and that the other words stay.
 use Prim.Native.Nat.{ℕ, _+_, _*_, _<_}
 use native.Mathlib.Omega.{arith}
 use mathlib.Core.Path.{_≡_, refl, sym, _∙_, subst}

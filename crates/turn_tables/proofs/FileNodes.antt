@@ -1,4 +1,4 @@
--- The nodes of a passed policy, read where they lie: the tree under each, and where a leaf's steps are. Assumes nothing.
+-- The nodes of a passed policy, read where they lie: the tree under each, and where a leaf's steps are.
 use Prim.Native.Nat.{ℕ, _+_, _*_, _≤_, _<_}
 use native.Mathlib.Omega.{arith}
 use mathlib.Core.Path.{_≡_, refl, sym, ap, ap₂, _∙_}
@@ -6,11 +6,11 @@ use mathlib.Core.List.{List}
 use lib.ListN.{length}
 use Rattle.actions.specs.Sets.{EMPTY, union}
 use Rattle.spec_policy.specs.Bytes.{Bytes}
-use Rattle.spec_policy.specs.Records.{nodeSize, nodeCount, stepCount, nodePlace, rowPlace, Node, nodeAt}
+use Rattle.spec_policy.specs.Records.{nodeSize, nodeCount, stepCount, nodePlace, stepPlace, Node, nodeAt}
 use Rattle.spec_policy.specs.Steps.{Step}
-use Rattle.spec_policy.specs.Tree.{aLeaf, nodeKind, owned, firstStep, places, leaf, treeAt, regulated}
+use Rattle.spec_policy.specs.Tree.{aLeaf, nodeKind, stepsOwned, firstStep, nodesWithSteps, leaf, treeAt, regulated}
 use Rattle.spec_policy.proofs.NodeLaws.{first-over, first-in}
-use Rattle.spec_check.specs.Numbers.{placeIn, shaped}
+use Rattle.spec_check.specs.Numbers.{nodeStepsIn, shaped}
 use Rattle.spec_check.proofs.Numbers as numbers
 use Rattle.spec_check.proofs.Numbers.{ChildrenLater, node-read, children-read}
 use Rattle.spec_check.specs.Passed.{Passed}
@@ -33,7 +33,7 @@ pub record Room (file : Bytes) : Type 0 where
   pub long : length file ≡ 6 + 16 * nodeCount file + 12 * stepCount file
 
 pub room : {file : Bytes} → Passed file → Room file
-unfolding rowPlace nodePlace
+unfolding stepPlace nodePlace
 room {file} ok =
     let c : CountsFit file = counts-fit file (ok .kept3) in
     record { some = c .some-node; few = c .few-nodes; steps = c .few-steps; long = c .long }
@@ -52,25 +52,25 @@ module _ (file : Bytes) (at : ℕ) (k : Kind) (read : kindOf k ≡ nodeKind (nod
   kind-is : {x : Kind} → k ≡ x → nodeKind (nodeAt file at .kind) ≡ kindOf x
   kind-is e = sym read ∙ ap kindOf e
 
-  pub owned-leaf : k ≡ kinds.Leaf → {b : ℕ} → b ≡ nodeAt file at .count → b ≡ owned (nodeAt file at)
-  unfolding owned kindOf
-  owned-leaf e f = f ∙ sym (rw (kind-is e, owned))
+  pub owned-leaf : k ≡ kinds.Leaf → {b : ℕ} → b ≡ nodeAt file at .count → b ≡ stepsOwned (nodeAt file at)
+  unfolding stepsOwned kindOf
+  owned-leaf e f = f ∙ sym (rw (kind-is e, stepsOwned))
 
-  pub owned-trivial : k ≡ kinds.Trivial → 0 ≡ owned (nodeAt file at)
-  unfolding owned kindOf
-  owned-trivial e = sym (rw (kind-is e, owned))
+  pub owned-trivial : k ≡ kinds.Trivial → 0 ≡ stepsOwned (nodeAt file at)
+  unfolding stepsOwned kindOf
+  owned-trivial e = sym (rw (kind-is e, stepsOwned))
 
-  pub owned-unsatisfiable : k ≡ kinds.Unsatisfiable → 0 ≡ owned (nodeAt file at)
-  unfolding owned kindOf
-  owned-unsatisfiable e = sym (rw (kind-is e, owned))
+  pub owned-unsatisfiable : k ≡ kinds.Unsatisfiable → 0 ≡ stepsOwned (nodeAt file at)
+  unfolding stepsOwned kindOf
+  owned-unsatisfiable e = sym (rw (kind-is e, stepsOwned))
 
-  pub owned-pair : {w : declared.Way} {j : joins.Join} → k ≡ kinds.Pair w j → 0 ≡ owned (nodeAt file at)
-  unfolding owned kindOf
-  owned-pair e = sym (rw (kind-is e, owned))
+  pub owned-pair : {w : declared.Way} {j : joins.Join} → k ≡ kinds.Pair w j → 0 ≡ stepsOwned (nodeAt file at)
+  unfolding stepsOwned kindOf
+  owned-pair e = sym (rw (kind-is e, stepsOwned))
 
-  pub owned-unknown : k ≡ kinds.Unknown → 0 ≡ owned (nodeAt file at)
-  unfolding owned kindOf
-  owned-unknown e = sym (rw (kind-is e, owned))
+  pub owned-unknown : k ≡ kinds.Unknown → 0 ≡ stepsOwned (nodeAt file at)
+  unfolding stepsOwned kindOf
+  owned-unknown e = sym (rw (kind-is e, stepsOwned))
 
 -- ---- the tree under a node, by the kind that the code read
 
@@ -78,7 +78,7 @@ module _ {file : Bytes} (ok : Passed file) (i : ℕ) (h : i < nodeCount file) {a
     (read : kindOf k ≡ nodeKind (nodeAt file at .kind)) where
   -- the tree, with the children that the code reads
   pub tree-read : {x : Kind} → k ≡ x
-      → treeAt file i ≡ shaped (kindOf x) i (placeIn (places file) i) (treeAt file (nodeAt file at .left)) (treeAt file (nodeAt file at .right))
+      → treeAt file i ≡ shaped (kindOf x) i (nodeStepsIn (nodesWithSteps file) i) (treeAt file (nodeAt file at .left)) (treeAt file (nodeAt file at .right))
   tree-read e = numbers.tree-read file h place (ok .kept5) (kind-is file at k read e)
 
   pub set-leaf : k ≡ kinds.Leaf → {b : ℕ} → b ≡ nodeAt file at .set → b ≡ regulated (treeAt file i)
@@ -111,20 +111,20 @@ module _ {file : Bytes} (ok : Passed file) (i : ℕ) (h : i < nodeCount file) {a
 pub steps-all : {file : Bytes} → Passed file → firstStep file (nodeCount file) ≡ stepCount file
 steps-all {file} ok = first-over file (nodeCount file) (omega arith) ∙ all-owned file (ok .kept6)
 
-pub steps-inside : {file : Bytes} → Passed file → (i : ℕ) → i < nodeCount file → firstStep file i + owned (nodeAt file (nodePlace i)) ≤ stepCount file
+pub steps-inside : {file : Bytes} → Passed file → (i : ℕ) → i < nodeCount file → firstStep file i + stepsOwned (nodeAt file (nodePlace i)) ≤ stepCount file
 steps-inside {file} ok i h = omega (arith, first-in file i h, all-owned file (ok .kept6))
 
 -- a leaf, with its steps where the file has them
 pub tree-leaf : {file : Bytes} → Passed file → (i : ℕ) → i < nodeCount file → nodeKind (nodeAt file (nodePlace i) .kind) ≡ aLeaf
-    → treeAt file i ≡ leaf i (nodeAt file (nodePlace i) .set) (nodeAt file (nodePlace i) .start) (codeAt file (rowPlace file (firstStep file i)) (nodeAt file (nodePlace i) .count))
+    → treeAt file i ≡ leaf i (nodeAt file (nodePlace i) .set) (nodeAt file (nodePlace i) .start) (codeAt file (stepPlace file (firstStep file i)) (nodeAt file (nodePlace i) .count))
 unfolding shaped
 tree-leaf {file} ok i h e =
     numbers.tree-read file h refl (ok .kept5) e
-    ∙ ap (λ (x : Node). leaf i (x .set) (x .start) (placeIn (places file) i .steps)) (node-read file h refl)
+    ∙ ap (λ (x : Node). leaf i (x .set) (x .start) (nodeStepsIn (nodesWithSteps file) i .steps)) (node-read file h refl)
     ∙ ap (λ (ss : List Step). leaf i (nodeAt file (nodePlace i) .set) (nodeAt file (nodePlace i) .start) ss)
-    (node-code file (all-owned file (ok .kept6)) i h ∙ ap (λ (k : ℕ). codeAt file (rowPlace file (firstStep file i)) k) (leaf-owned (nodeAt file (nodePlace i)) e))
+    (node-code file (all-owned file (ok .kept6)) i h ∙ ap (λ (k : ℕ). codeAt file (stepPlace file (firstStep file i)) k) (leaf-owned (nodeAt file (nodePlace i)) e))
 
 pub leaf-room : {file : Bytes} → Passed file → (i : ℕ) → i < nodeCount file → nodeKind (nodeAt file (nodePlace i) .kind) ≡ aLeaf
-    → rowPlace file (firstStep file i) + 12 * (nodeAt file (nodePlace i) .count) ≤ length file
-unfolding rowPlace nodePlace
+    → stepPlace file (firstStep file i) + 12 * (nodeAt file (nodePlace i) .count) ≤ length file
+unfolding stepPlace nodePlace
 leaf-room {file} ok i h e = let r = room ok in omega (arith, steps-inside ok i h, leaf-owned (nodeAt file (nodePlace i)) e)

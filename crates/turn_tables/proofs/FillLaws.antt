@@ -1,4 +1,4 @@
--- The first pass: the tables, filled from the last node down. Assumes nothing.
+-- The first pass: the tables, filled from the last node down.
 use Prim.Native.Nat.{ℕ, _+_, _-_, _≤_, _<_}
 use native.Mathlib.Omega.{arith}
 use native.Mathlib.Nat.{eq-or-lt-of-le}
@@ -9,7 +9,7 @@ use lib.Seq.{getD-set-same, getD-set-other}
 use Rattle.actions.specs.Sets.{EMPTY}
 use Rattle.spec_policy.specs.Bytes.{Bytes}
 use Rattle.spec_policy.specs.Records.{nodeCount, stepCount, nodePlace, nodeAt}
-use Rattle.spec_policy.specs.Tree.{owned, firstStep, treeAt, regulated}
+use Rattle.spec_policy.specs.Tree.{stepsOwned, firstStep, treeAt, regulated}
 use Rattle.spec_policy.proofs.NodeLaws.{first-next}
 use Rattle.spec_check.specs.Passed.{Passed}
 use Rattle.turn_memory.specs.Words.{Words, setPlace, abovePlace, linkPlace, wordCount}
@@ -43,11 +43,11 @@ filled-none {file} ok e f size =
 
 module _ {file : Bytes} {n m : ℕ} {ws₀ ws : Words} {i first : ℕ} (g : Filled file n m ws₀ ws i first) (some : 0 < i) where
   -- the node before
-  steps-left : first ≡ firstStep file (i - 1) + owned (nodeAt file (nodePlace (i - 1)))
+  steps-left : first ≡ firstStep file (i - 1) + stepsOwned (nodeAt file (nodePlace (i - 1)))
   steps-left = let e : i ≡ i - 1 + 1 = omega arith in g .count ∙ ap (firstStep file) e ∙ first-next file (i - 1) (omega (arith, g .nodes, g .below))
 
-  pub steps-some : (o at : ℕ) → at ≡ nodePlace (i - 1) → o ≡ owned (nodeAt file at) → o ≤ first
-  steps-some o at p f = omega (arith, steps-left, f ∙ ap (λ (x : ℕ). owned (nodeAt file x)) p)
+  pub steps-some : (o at : ℕ) → at ≡ nodePlace (i - 1) → o ≡ stepsOwned (nodeAt file at) → o ≤ first
+  steps-some o at p f = omega (arith, steps-left, f ∙ ap (λ (x : ℕ). stepsOwned (nodeAt file x)) p)
 
   pub sets-later : (k : ℕ) → i - 1 < k → k < nodeCount file → setAt ws k ≡ regulated (treeAt file k)
   sets-later k a b = g .fresh k (omega arith) b .entered .set
@@ -102,10 +102,10 @@ module _ {file : Bytes} {n m : ℕ} {ws₀ ws : Words} {i first : ℕ} (g : Fill
         feeder = omega (arith, same-link, old .feeder);
       }
 
-    pub filled-more : (d at : ℕ) → s ≡ regulated (treeAt file (i - 1)) → at ≡ nodePlace (i - 1) → d ≡ owned (nodeAt file at) → o ≡ first - d
+    pub filled-more : (d at : ℕ) → s ≡ regulated (treeAt file (i - 1)) → at ≡ nodePlace (i - 1) → d ≡ stepsOwned (nodeAt file at) → o ≡ first - d
         → {us : Words} → us ≡ ws′ → Filled file n m ws₀ us (i - 1) o
     filled-more d at e p f q y =
-        let c : o ≡ firstStep file (i - 1) = omega (arith, steps-left, f ∙ ap (λ (x : ℕ). owned (nodeAt file x)) p) in
+        let c : o ≡ firstStep file (i - 1) = omega (arith, steps-left, f ∙ ap (λ (x : ℕ). stepsOwned (nodeAt file x)) p) in
         let t : o ≤ 512 = omega (arith, g .little) in
         subst (λ (us : Words). Filled file n m ws₀ us (i - 1) o) (sym y)
         (record {

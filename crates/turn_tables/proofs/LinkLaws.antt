@@ -1,4 +1,4 @@
--- The second pass: every node's way up is entered before the node is come to. Assumes nothing.
+-- The second pass: every node's way up is entered before the node is come to.
 use Prim.Native.Nat.{ℕ, _+_, _≤_, _<_}
 use native.Mathlib.Omega.{arith}
 use native.Mathlib.Nat.{eq-or-lt-of-le}

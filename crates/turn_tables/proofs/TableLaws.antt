@@ -1,5 +1,5 @@
 -- The tables as the turn uses them: they are the words from their own place on, and an insert that no set above has is taken by no right side
--- on its way up. Assumes nothing.
+-- on its way up.
 use Prim.Native.Nat.{ℕ, zero, suc, _+_, _%_, _≤_, _<_}
 use native.Mathlib.Omega.{arith}
 use native.Mathlib.Nat.{eq-or-lt-of-le}

@@ -1,4 +1,4 @@
--- The tables while they are made: the words of one entry, and what the first pass leaves. Assumes nothing.
+-- The tables while they are made: the words of one entry, and what the first pass leaves.
 use Prim.Native.Nat.{ℕ, _+_, _*_, _<_}
 use mathlib.Core.Path.{_≡_}
 use lib.ListN.{set}

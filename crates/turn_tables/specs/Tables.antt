@@ -1,5 +1,5 @@
 -- What the words of a call hold of every node: the actions that it regulates, where a leaf's steps begin, and its inserts' way up, with the
--- actions that a right side on that way may be asked about. Assumes nothing.
+-- actions that a right side on that way may be asked about.
 use Prim.Native.Nat.{ℕ, zero, suc, _+_, _/_, _%_, _≤_, _<_}
 use mathlib.Core.Path.{_≡_}
 use mathlib.Core.Bool.{Bool, true, false}

@@ -4,7 +4,7 @@ ghost use mathlib.Core.Path.{_≡_};
 ghost use Prim.Native.Nat.{ℕ, _+_, _≤_, _<_};
 ghost use lib.ListN.{length};
 ghost use Rattle.spec_policy.specs.Records.{nodeSize, nodeCount, stepCount, nodeAt, mostNodes, nodePlace};
-ghost use Rattle.spec_policy.specs.Tree.{owned, regulated, treeAt};
+ghost use Rattle.spec_policy.specs.Tree.{stepsOwned, regulated, treeAt};
 ghost use Rattle.spec_check.specs.Passed.{Passed};
 ghost use Rattle.file_records.specs.Kinds.{wayOf};
 ghost use Rattle.turn_sides.specs.Sides.{kindAt};
@@ -13,24 +13,22 @@ ghost use Rattle.turn_tables.specs.Tables.{setAt, aboveAt, feederAt, fir
 ghost use Rattle.turn_tables.specs.Entries.{wayUp, sidesUp, entered, Begun};
 use actions::ActionSet;
 use file_records::Kind;
+use file_records::MOST_NODES;
 use file_records::Way;
 use file_view::view_count;
 use file_view::view_kind;
 use file_view::view_left;
 use file_view::view_right;
 use file_view::view_set;
+use turn_memory::ABOVE;
+use turn_memory::LINKS;
+use turn_memory::SETS;
+use turn_memory::WORDS;
 use turn_sides::left_of;
 use turn_sides::right_of;
 
 // No node: there are 31 at most, numbered from 0.
-pub const NONE: usize = 31;
-
-// Where the tables begin, a word for each node in each.
-const SETS: usize = 64;
-
-const ABOVE: usize = 95;
-
-const LINKS: usize = 126;
+pub const NONE: usize = MOST_NODES;
 
 // A link's word: the feeding node lowest, then the number of the first step.
 const FEEDERS: u64 = 256;
@@ -40,7 +38,7 @@ const FIRSTS: u64 = 65536;
 // ---- what the turn looks up
 
 // The actions that the node regulates.
-pub fn set_of(mem: &[u64; 157], node: usize) -> ActionSet
+pub fn set_of(mem: &[u64; WORDS], node: usize) -> ActionSet
     requires { ⌜ node < mostNodes ⌝ }
     ensures { λ r. ⌜ r .bits ≡ setAt (now (mem .entry)) node ⌝ }
 {
@@ -50,7 +48,7 @@ pub fn set_of(mem: &[u64; 157], node: usize) -> ActionSet
 }
 
 // The actions that a right side may be asked about on the way up of the node's inserts.
-pub fn above_of(mem: &[u64; 157], node: usize) -> ActionSet
+pub fn above_of(mem: &[u64; WORDS], node: usize) -> ActionSet
     requires { ⌜ node < mostNodes ⌝ }
     ensures { λ r. ⌜ r .bits ≡ aboveAt (now (mem .entry)) node ⌝ }
 {
@@ -60,7 +58,7 @@ pub fn above_of(mem: &[u64; 157], node: usize) -> ActionSet
 }
 
 // The nearest sequential node above on whose left side the node lies, or NONE.
-pub fn feeder_of(mem: &[u64; 157], node: usize) -> usize
+pub fn feeder_of(mem: &[u64; WORDS], node: usize) -> usize
     requires { ⌜ node < mostNodes ⌝ }
     ensures { λ r. ⌜ r ≡ feederAt (now (mem .entry)) node ⌝ }
 {
@@ -68,7 +66,7 @@ pub fn feeder_of(mem: &[u64; 157], node: usize) -> usize
 }
 
 // The number of the node's first step, where it is a leaf.
-pub fn first_of(mem: &[u64; 157], node: usize) -> usize
+pub fn first_of(mem: &[u64; WORDS], node: usize) -> usize
     requires { ⌜ node < mostNodes ⌝ }
     ensures { λ r. ⌜ r ≡ firstAt (now (mem .entry)) node ⌝ }
 {
@@ -78,7 +76,7 @@ pub fn first_of(mem: &[u64; 157], node: usize) -> usize
 // ---- entries
 
 // Enters a node's way up, and beside it the number of its first step, which is in the same word.
-fn link(mem: &mut [u64; 157], node: usize, first: usize, above: ActionSet, feeder: usize)
+fn link(mem: &mut [u64; WORDS], node: usize, first: usize, above: ActionSet, feeder: usize)
     requires { ⌜ (node < mostNodes) × ((first < 65536) × (feeder < 256)) ⌝ }
     ensures { λ _. ⌜ now (mem .exit) ≡ wayUp (now (mem .entry)) node first (above .bits) feeder ⌝ }
 {
@@ -89,9 +87,9 @@ fn link(mem: &mut [u64; 157], node: usize, first: usize, above: ActionSet, feede
 // ---- the first pass: regulated sets and first steps
 
 // How many steps the node has.
-fn owned(policy: &[u8], node: usize) -> u8
+fn steps_owned(policy: &[u8], node: usize) -> u8
     requires { ⌜ (node ≤ 255) × (nodePlace node + nodeSize ≤ length (now policy)) ⌝ }
-    ensures { λ r. ⌜ r ≡ owned (nodeAt (now (policy .entry)) (nodePlace node)) ⌝ }
+    ensures { λ r. ⌜ r ≡ stepsOwned (nodeAt (now (policy .entry)) (nodePlace node)) ⌝ }
 {
     let kind = view_kind(policy, node);
     match kind {
@@ -104,7 +102,7 @@ fn owned(policy: &[u8], node: usize) -> u8
 }
 
 // The regulated set of a node whose children's sets are entered.
-fn regulated(policy: &[u8], node: usize, mem: &[u64; 157]) -> ActionSet
+fn regulated(policy: &[u8], node: usize, mem: &[u64; WORDS]) -> ActionSet
     requires { ⌜ Passed (now policy) × (node < nodeCount (now policy)) ⌝ }
     requires { ⌜ ((k : ℕ) → node < k → k < nodeCount (now policy) → setAt (now mem) k ≡ regulated (treeAt (now policy) k)) ⌝ }
     ensures { λ r. ⌜ r .bits ≡ regulated (treeAt (now (policy .entry)) node) ⌝ }
@@ -124,7 +122,7 @@ fn regulated(policy: &[u8], node: usize, mem: &[u64; 157]) -> ActionSet
 }
 
 // Enters every node's regulated set and the number of its first step, as if no node gave inserts on.
-fn enter_sets(policy: &[u8], n: usize, m: usize, mem: &mut [u64; 157])
+fn enter_sets(policy: &[u8], n: usize, m: usize, mem: &mut [u64; WORDS])
     requires { ⌜ Passed (now policy) × ((n ≡ nodeCount (now policy)) × (m ≡ stepCount (now policy))) ⌝ }
     requires { ⌜ length (now mem) ≡ wordCount ⌝ }
     ensures { λ _. ⌜ Begun (now (policy .entry)) (now (mem .entry)) (now (mem .exit)) ⌝ }
@@ -134,7 +132,7 @@ fn enter_sets(policy: &[u8], n: usize, m: usize, mem: &mut [u64; 157])
     while i > 0 {
         i -= 1;
         let set = regulated(policy, i, mem);
-        first -= owned(policy, i) as usize;
+        first -= steps_owned(policy, i) as usize;
         mem[SETS + i] = set.bits;
         link(mem, i, first, ActionSet::EMPTY, NONE);
     }
@@ -143,7 +141,7 @@ fn enter_sets(policy: &[u8], n: usize, m: usize, mem: &mut [u64; 157])
 // ---- the second pass: the way up
 
 // Enters the way up of a node's sides: the node's own, but that a sequential node takes its left side's inserts itself.
-fn link_sides(mem: &mut [u64; 157], node: usize, way: Way, left: usize, right: usize)
+fn link_sides(mem: &mut [u64; WORDS], node: usize, way: Way, left: usize, right: usize)
     requires { ⌜ (node < mostNodes) × ((left < mostNodes) × (right < mostNodes)) ⌝ }
     ensures { λ _. ⌜ now (mem .exit) ≡ sidesUp (wayOf way) (now (mem .entry)) node left right ⌝ }
 {
@@ -158,7 +156,7 @@ fn link_sides(mem: &mut [u64; 157], node: usize, way: Way, left: usize, right: u
     }
 }
 
-fn link_node(policy: &[u8], node: usize, mem: &mut [u64; 157])
+fn link_node(policy: &[u8], node: usize, mem: &mut [u64; WORDS])
     requires { ⌜ Passed (now policy) × (node < nodeCount (now policy)) ⌝ }
     ensures { λ _. ⌜ now (mem .exit) ≡ entered (kindAt (now (policy .entry)) node) (now (policy .entry)) node (now (mem .entry)) ⌝ }
 {
@@ -179,7 +177,7 @@ fn link_node(policy: &[u8], node: usize, mem: &mut [u64; 157])
 }
 
 // Enters the tables.
-pub fn prepare(policy: &[u8], n: usize, m: usize, mem: &mut [u64; 157])
+pub fn prepare(policy: &[u8], n: usize, m: usize, mem: &mut [u64; WORDS])
     requires { ⌜ Passed (now policy) × ((n ≡ nodeCount (now policy)) × (m ≡ stepCount (now policy))) ⌝ }
     requires { ⌜ length (now mem) ≡ wordCount ⌝ }
     ensures { λ _. ⌜ Tabled (now (policy .entry)) (now (mem .exit)) × Kept (now (mem .entry)) (now (mem .exit)) ⌝ }

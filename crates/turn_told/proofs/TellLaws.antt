@@ -1,4 +1,4 @@
--- Inserts taken out of their words, the last one first, and written as events. Assumes nothing.
+-- Inserts taken out of their words, the last one first, and written as events.
 use Prim.Native.Nat.{ℕ, suc, _+_, _-_, _*_, _/_, _%_, _≤_, _<_}
 use native.Mathlib.Omega.{arith}
 use mathlib.Core.Path.{_≡_, refl, sym, ap, ap₂, _∙_, subst}

@@ -1,4 +1,4 @@
--- The inserts that were told, written as events. Assumes nothing.
+-- The inserts that were told, written as events.
 use Prim.Native.Nat.{ℕ, _+_, _*_, _≤_, _<_}
 use mathlib.Core.Path.{_≡_}
 use mathlib.Core.List.{List, [], map}

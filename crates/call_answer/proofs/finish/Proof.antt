@@ -1,4 +1,4 @@
--- `finish` meets its contract: the state saved, the root's status its first byte. Assumes nothing.
+-- `finish` meets its contract: the state saved, the root's status its first byte.
 use borrow.Author.Needs.{needs}
 use Rattle.call_answer.proofs.EndLaws.{ended}
 use Rattle.call_answer.proofs.finish.Statement.{statement}

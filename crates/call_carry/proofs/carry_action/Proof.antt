@@ -1,4 +1,4 @@
--- `carry_action` meets its contract: the call carried out where the root is asked; else its verdict, and no change. Assumes nothing.
+-- `carry_action` meets its contract: the call carried out where the root is asked; else its verdict, and no change.
 use mathlib.Core.Path.{sym, _∙_}
 use borrow.Author.Needs.{needs}
 use Rattle.actions.proofs.Tests.{of-yes}
@@ -26,7 +26,7 @@ returns-2 c =
     let h = st .pre .0 in
     stayed (st .args .policy .now) (st .args .state .now) (st .args .events .now) (h .passed) (h .state-size) (λ i. c .before .before .before .before .before .before .before .before .before .before .slice-known .given i .fits) (h .reads) (st .args .action)
     (sym (asks-root (st .args .policy .now) (st .args .state .now) (st .args .action) (c .before .before .before .before .before .before .before .saved-status .ensures) (c .before .before .before .before .before .before .is-running .ensures) (c .before .before .before .before .before .has .ensures) (st .pre .1)) ∙ c .before .before .before .before .if1 .left)
-    (c .before .before .before .before .before .before .before .saved-status .ensures) (c .before .before .say .ensures)
+    (c .before .before .before .before .before .before .before .saved-status .ensures) (c .before .before .put-verdict .ensures)
 
 pub carry-action-spec : {M : Type 1} → statement M
 carry-action-spec = tie.close (tie.spec (λ c κs. search needs) (λ c κs. search needs) (λ c κs. search needs) carry-out-requires (λ c. search needs) (λ c. search needs) returns (λ c κs. search needs) (λ c. search needs) (λ c. search needs) returns-2)

@@ -1,4 +1,4 @@
--- `carry_close` meets its contract: no change where the root is decided, else the closing phase, from the saved state. Assumes nothing.
+-- `carry_close` meets its contract: no change where the root is decided, else the closing phase, from the saved state.
 use mathlib.Core.Path.{refl}
 use borrow.Author.Needs.{needs}
 use Rattle.actions.proofs.Tests.{of-yes, not-false}

@@ -1,4 +1,4 @@
--- `carry_counted` meets its contract: each call is its own function's. Assumes nothing.
+-- `carry_counted` meets its contract: each call is its own function's.
 use borrow.Author.Needs.{needs}
 use Rattle.call_answer.specs.Requests.{asked}
 use Rattle.call_carry.proofs.CallLaws.{runs-as, gave-as}

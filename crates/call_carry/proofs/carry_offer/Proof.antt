@@ -1,4 +1,4 @@
--- `carry_offer` meets its contract: the root's turn, from the saved state, and the end of the call. Assumes nothing.
+-- `carry_offer` meets its contract: the root's turn, from the saved state, and the end of the call.
 use mathlib.Core.Path.{refl, _∙_}
 use borrow.Author.Needs.{needs}
 use Rattle.spec_turns.specs.Turn as spec

@@ -1,4 +1,4 @@
--- `carry_open` meets its contract: the phase after a verdict, from the state in which no node is opened. Assumes nothing.
+-- `carry_open` meets its contract: the phase after a verdict, from the state in which no node is opened.
 use borrow.Author.Needs.{needs}
 use Rattle.turn_memory.specs.Phases.{phaseOf}
 use Rattle.call_carry.proofs.CallLaws.{few-nodes, none-told, opened}

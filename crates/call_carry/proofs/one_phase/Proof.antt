@@ -1,4 +1,4 @@
--- `one_phase` meets its contract: the tables, the phase, and the end of the call. Assumes nothing.
+-- `one_phase` meets its contract: the tables, the phase, and the end of the call.
 use borrow.Author.Needs.{needs}
 use Rattle.call_phase.proofs.PhaseLaws.{phase-room}
 use Rattle.call_carry.proofs.CallLaws.{ready, held-prepared, phase-played, gave, phase-from}

@@ -1,4 +1,4 @@
--- `bare` meets its contract. Assumes nothing.
+-- `bare` meets its contract.
 use borrow.Author.Needs.{needs}
 use Prim.Native.Nat.{ℕ}
 use mathlib.Core.Path.{ap₂}

@@ -1,4 +1,4 @@
--- `fits` meets its contract: its three tests are those of rule 12, with n for the number of nodes. Assumes nothing.
+-- `fits` meets its contract: its three tests are those of rule 12, with n for the number of nodes.
 use borrow.Author.Needs.{needs}
 use Prim.Native.Nat.{ℕ}
 use native.Mathlib.Omega.{arith}

@@ -1,4 +1,4 @@
--- `is_status` meets its contract. Assumes nothing.
+-- `is_status` meets its contract.
 use borrow.Author.Needs.{needs}
 use lib.Dec.{eqb}
 use Rattle.spec_policy.specs.Lists.{among}

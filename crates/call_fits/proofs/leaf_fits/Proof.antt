@@ -1,4 +1,4 @@
--- `leaf_fits` meets its contract. Assumes nothing.
+-- `leaf_fits` meets its contract.
 use borrow.Author.Needs.{needs}
 use Rattle.call_fits.proofs.NodeLaws.{leaf-running, leaf-over}
 use Rattle.call_fits.proofs.leaf_fits.Statement.{statement}

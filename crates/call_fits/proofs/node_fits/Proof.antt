@@ -1,4 +1,4 @@
--- `node_fits` meets its contract: each kind of node has its own function. Assumes nothing.
+-- `node_fits` meets its contract: each kind of node has its own function.
 use borrow.Author.Needs.{needs}
 use Prim.Native.Nat.{ℕ, _+_, _≤_, _<_}
 use native.Mathlib.Omega.{arith}

@@ -1,4 +1,4 @@
--- `pair_fits` meets its contract. Assumes nothing.
+-- `pair_fits` meets its contract.
 use borrow.Author.Needs.{needs}
 use Rattle.call_fits.proofs.NodeLaws.{pair-alone}
 use Rattle.call_fits.proofs.pair_fits.Statement.{statement}

@@ -1,4 +1,4 @@
--- `sides_fit` meets its contract. Assumes nothing.
+-- `sides_fit` meets its contract.
 use borrow.Author.Needs.{needs}
 use Rattle.call_fits.proofs.NodeLaws.{sides-running, sides-over}
 use Rattle.call_fits.proofs.sides_fit.Statement.{statement}

@@ -1,5 +1,5 @@
 -- `tree_fits` meets its contract. The loop's invariant: `first` is the number of the first step of the nodes from i on, and `fit` is known of
--- those nodes. Assumes nothing.
+-- those nodes.
 use Prim.Native.Nat.{ℕ, _+_, _-_, _≤_, _<_}
 use native.Mathlib.Omega.{arith}
 use mathlib.Core.Path.{_≡_, refl, sym}

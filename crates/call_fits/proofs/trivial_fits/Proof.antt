@@ -1,4 +1,4 @@
--- `trivial_fits` meets its contract. Assumes nothing.
+-- `trivial_fits` meets its contract.
 use borrow.Author.Needs.{needs}
 use Rattle.call_fits.proofs.NodeLaws.{trivial-alone}
 use Rattle.call_fits.proofs.trivial_fits.Statement.{statement}

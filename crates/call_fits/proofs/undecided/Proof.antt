@@ -1,4 +1,4 @@
--- `undecided` meets its contract. Assumes nothing.
+-- `undecided` meets its contract.
 use borrow.Author.Needs.{needs}
 use Rattle.spec_turns.specs.Saved.{undecided}
 use Rattle.file_records.specs.Kinds.{joinOf}

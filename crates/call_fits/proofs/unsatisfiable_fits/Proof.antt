@@ -1,4 +1,4 @@
--- `unsatisfiable_fits` meets its contract. Assumes nothing.
+-- `unsatisfiable_fits` meets its contract.
 use borrow.Author.Needs.{needs}
 use Rattle.call_fits.proofs.NodeLaws.{unsatisfiable-alone}
 use Rattle.call_fits.proofs.unsatisfiable_fits.Statement.{statement}

@@ -1,4 +1,4 @@
--- `waits` meets its contract: an offset past the leaf is no step, and of any other step the kind tells a next. Assumes nothing.
+-- `waits` meets its contract: an offset past the leaf is no step, and of any other step the kind tells a next.
 use borrow.Author.Needs.{needs}
 use Rattle.call_fits.proofs.FileLaws.{waits-past, waits-here}
 use Rattle.call_fits.proofs.waits.Statement.{statement}

@@ -1,4 +1,4 @@
--- `zeros_kept` meets its contract. The loop's invariant: the whole test equals the test of the first i records. Assumes nothing.
+-- `zeros_kept` meets its contract. The loop's invariant: the whole test equals the test of the first i records.
 use Prim.Native.Nat.{_-_, _≤_}
 use native.Mathlib.Omega.{arith}
 use mathlib.Core.Path.{_≡_, refl, sym, ap, _∙_}

@@ -1,4 +1,4 @@
--- `play` meets its contract: the phase before the verdict, the verdict, the phase after it. Assumes nothing.
+-- `play` meets its contract: the phase before the verdict, the verdict, the phase after it.
 use mathlib.Core.Path.{refl, _∙_}
 use borrow.Author.Needs.{needs}
 use Rattle.turn_memory.specs.Phases.{phaseOf}

@@ -1,4 +1,4 @@
--- `run_phase` meets its contract: the root's turn, and its inserts told. Assumes nothing.
+-- `run_phase` meets its contract: the root's turn, and its inserts told.
 use borrow.Author.Needs.{needs}
 use Rattle.call_phase.proofs.PhaseLaws.{root-stands, can-tell, phased, ready-again}
 use Rattle.call_phase.proofs.run_phase.Statement.{statement}

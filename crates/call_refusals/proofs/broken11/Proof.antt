@@ -1,4 +1,4 @@
--- `broken11` meets its contract. Assumes nothing.
+-- `broken11` meets its contract.
 use mathlib.Core.Path.{refl}
 use Rattle.spec_turns.specs.Entries.{broken11}
 use Rattle.call_refusals.proofs.broken11.Statement.{statement}

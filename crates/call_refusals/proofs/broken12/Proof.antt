@@ -1,4 +1,4 @@
--- `broken12` meets its contract. Assumes nothing.
+-- `broken12` meets its contract.
 use native.Mathlib.Omega.{arith}
 use mathlib.Core.Path.{ap}
 use mathlib.Core.Bool.{not}

@@ -1,4 +1,4 @@
--- `broken14` meets its contract. Assumes nothing.
+-- `broken14` meets its contract.
 use Prim.Native.Nat.{ℕ}
 use mathlib.Core.Path.{ap, _∙_}
 use borrow.Author.Needs.{needs}

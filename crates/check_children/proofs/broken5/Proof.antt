@@ -1,4 +1,4 @@
--- `broken5` meets its contract: the rule by the two passes, over counts that begin at 0. Assumes nothing.
+-- `broken5` meets its contract: the rule by the two passes, over counts that begin at 0.
 use mathlib.Core.Path.{_≡_, sym, ap, _∙_}
 use mathlib.Core.Bool.{true, not}
 use native.Mathlib.Omega.{arith}

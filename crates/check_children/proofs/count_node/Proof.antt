@@ -1,4 +1,4 @@
--- `count_node` meets its contract: its tests are the rule's, and two numbers are counted once more, or one twice. Assumes nothing.
+-- `count_node` meets its contract: its tests are the rule's, and two numbers are counted once more, or one twice.
 use Prim.Native.Nat.{ℕ, _<_}
 use mathlib.Core.Path.{sym, _∙_}
 use mathlib.Core.List.{List}

@@ -1,4 +1,4 @@
--- `count_nodes` meets its contract. The loop carries what is left of the test and of the counts. Assumes nothing.
+-- `count_nodes` meets its contract. The loop carries what is left of the test and of the counts.
 use Prim.Native.Nat.{_-_, _≤_}
 use mathlib.Core.Path.{_≡_, sym, ap}
 use mathlib.Core.Bool.{true}

@@ -1,4 +1,4 @@
--- `each_once` meets its contract: the loop carries what is left of the test. Assumes nothing.
+-- `each_once` meets its contract: the loop carries what is left of the test.
 use Prim.Native.Nat.{_-_}
 use mathlib.Core.Path.{_≡_, refl, sym, _∙_}
 use native.Mathlib.Omega.{arith}

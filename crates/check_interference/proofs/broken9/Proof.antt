@@ -1,12 +1,12 @@
 -- `broken9` meets its contract. The loop's invariant: the nodes from i on have their sets and flags, and the leaves before i their effect
--- sets. Assumes nothing.
+-- sets.
 use Prim.Native.Nat.{_+_, _-_, _≤_, _<_}
 use native.Mathlib.Omega.{arith}
 use mathlib.Core.Path.{_≡_, refl, sym}
 use lib.Dec.{lit<}
 use Rattle.spec_policy.specs.Records.{mostNodes}
 use Rattle.spec_check.specs.Interference.{leafEffects}
-use Rattle.check_leaves.specs.Leaves.{Held}
+use Rattle.check_leaves.specs.Leaves.{LeafValues}
 use Rattle.check_interference.specs.Sets.{RegulatedFrom, EffectsFrom, ApartFrom}
 use Rattle.check_interference.proofs.TreeSets.{filled-as, filled-none, filled-more, held-as, held-less, nine-is}
 use Rattle.check_interference.proofs.broken9.Statement.{statement}
@@ -14,7 +14,7 @@ use Rattle.check_interference.proofs.broken9.Tie as tie
 
 abbrev Inv-loop : tie.InvT-loop
 Inv-loop policy n m regulated₀ effects₀ flags₀ i₀ regulated effects flags i =
-    (i ≤ n) × RegulatedFrom policy i n regulated × EffectsFrom policy i n effects × Held leafEffects policy i effects × ApartFrom policy i n flags
+    (i ≤ n) × RegulatedFrom policy i n regulated × EffectsFrom policy i n effects × LeafValues leafEffects policy i effects × ApartFrom policy i n flags
 
 abbrev μ-loop : tie.MeasureT-loop
 μ-loop policy n m regulated₀ effects₀ flags₀ i₀ regulated effects flags i = i

@@ -1,4 +1,4 @@
--- `interfere` meets its contract. Assumes nothing.
+-- `interfere` meets its contract.
 use mathlib.Core.Path.{refl}
 use borrow.Author.Needs.{needs}
 use Rattle.file_records.specs.Kinds.{wayOf}

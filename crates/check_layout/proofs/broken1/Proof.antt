@@ -1,4 +1,4 @@
--- `broken1` meets its contract: a file shorter than its front is broken, and of a longer one the length field is read. Assumes nothing.
+-- `broken1` meets its contract: a file shorter than its front is broken, and of a longer one the length field is read.
 use borrow.Author.Needs.{needs}
 use Rattle.check_layout.proofs.Fields.{front-short, front-read}
 use Rattle.check_layout.proofs.broken1.Statement.{statement}

@@ -1,4 +1,4 @@
--- `broken2` meets its contract. Assumes nothing.
+-- `broken2` meets its contract.
 use borrow.Author.Needs.{needs}
 use Prim.Native.Nat.{ℕ}
 use mathlib.Core.Path.{ap}

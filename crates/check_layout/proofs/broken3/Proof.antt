@@ -1,4 +1,4 @@
--- `broken3` meets its contract: two counts of at most two bytes keep the sum far below 2 ^ 64. Assumes nothing.
+-- `broken3` meets its contract: two counts of at most two bytes keep the sum far below 2 ^ 64.
 use borrow.Author.Needs.{needs}
 use Rattle.check_layout.proofs.Fields.{counts-read}
 use Rattle.check_layout.proofs.broken3.Statement.{statement}

@@ -1,8 +1,8 @@
--- `no_first` meets its contract. Assumes nothing.
+-- `no_first` meets its contract.
 use Prim.Native.Nat.{ℕ}
 use mathlib.Core.Path.{ap}
 use lib.Dec.{eqb}
-use Rattle.spec_policy.specs.Records.{rowAt}
+use Rattle.spec_policy.specs.Records.{stepRecordAt}
 use Rattle.spec_check.specs.Layout.{noFirst}
 use borrow.Author.Needs.{needs}
 use Rattle.check_layout.proofs.no_first.Statement.{statement}
@@ -15,7 +15,7 @@ byte-requires : tie.Need-byte-requires
 byte-requires c κs = search needs
 
 returns : tie.Need-returns
-unfolding noFirst rowAt
+unfolding noFirst stepRecordAt
 returns c = ap (λ (x : ℕ). eqb x 0) (c .byte .ensures)
 
 pub no-first-spec : {M : Type 1} → statement M

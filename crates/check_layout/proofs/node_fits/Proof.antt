@@ -1,4 +1,4 @@
--- `node_fits` meets its contract: with its fields read and its kind known, a node's test is the arm's. Assumes nothing.
+-- `node_fits` meets its contract: with its fields read and its kind known, a node's test is the arm's.
 use borrow.Author.Needs.{needs}
 use mathlib.Core.Path.{_≡_, sym, ap, _∙_}
 use Rattle.actions.specs.Sets.{isEmpty}

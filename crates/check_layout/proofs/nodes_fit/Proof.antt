@@ -1,4 +1,4 @@
--- `nodes_fit` meets its contract: the loop carries along what is left of the test. Assumes nothing.
+-- `nodes_fit` meets its contract: the loop carries along what is left of the test.
 use borrow.Author.Needs.{needs}
 use borrow.Author.Tests.{not-true, not-false}
 use native.Mathlib.Omega.{arith}

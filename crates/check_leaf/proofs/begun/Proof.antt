@@ -1,4 +1,4 @@
--- `begun` meets its contract. Assumes nothing.
+-- `begun` meets its contract.
 use mathlib.Core.Path.{refl}
 use borrow.Author.Needs.{needs}
 use Rattle.actions.specs.Sets.{EMPTY}

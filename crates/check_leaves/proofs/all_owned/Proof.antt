@@ -1,5 +1,5 @@
 -- `all_owned` meets its contract. The loop's invariant: the sum is what the nodes before i own, at most 64 each.
--- Assumes nothing.
+--
 use Prim.Native.Nat.{ℕ, _*_, _≤_, _-_}
 use native.Mathlib.Omega.{arith}
 use mathlib.Core.Path.{_≡_, ap, _∙_}

@@ -1,4 +1,4 @@
--- `walk_leaves` meets its contract: the invariant is what is found of the nodes before node i, with what is left. Assumes nothing.
+-- `walk_leaves` meets its contract: the invariant is what is found of the nodes before node i, with what is left.
 use Prim.Native.Nat.{ℕ, _+_, _*_, _-_, _≤_}
 use native.Mathlib.Omega.{arith}
 use mathlib.Core.Path.{_≡_, sym, ap, _∙_}
@@ -9,7 +9,7 @@ use borrow.Author.Tests.{not-true, not-false}
 use Rattle.spec_policy.specs.Bytes.{Bytes}
 use Rattle.spec_policy.specs.Lists.{summed}
 use Rattle.spec_policy.specs.Records.{nodeSize, nodeAt, nodes}
-use Rattle.spec_policy.specs.Tree.{owned}
+use Rattle.spec_policy.specs.Tree.{stepsOwned}
 use Rattle.check_layout.specs.Frame.{Framed}
 use Rattle.check_layout.proofs.Frame.{node-place, node-inside}
 use Rattle.check_layout.specs.Fits.{nodesFit}
@@ -22,7 +22,7 @@ use Rattle.check_leaves.proofs.walk_leaves.Tie as tie
 pub record Known (policy : Bytes) (n m i at : ℕ) (effects inserts : List ℕ) (modes taken : Bool) : Type 0 where
   pub frame : Framed policy n m
   pub fits : nodesFit policy ≡ true
-  pub all : summed (map owned (nodes policy)) ≡ m
+  pub all : summed (map stepsOwned (nodes policy)) ≡ m
   pub so-far : Walking frame fits all i at effects inserts modes taken
 
 abbrev Inv-loop : tie.InvT-loop
@@ -56,8 +56,8 @@ module _ (c : tie.After-node-count Inv-loop μ-loop) where
       let k = c .before .before .before .loop .inv in
       counted (k .frame) (k .fits) _ _ _ (c .before .before .loop-test .taken) (c .before .node-place2 .ensures) (c .node-count .ensures)
 
-  owned-here : c .node-count .result ≡ owned (nodeAt file (c .before .node-place2 .result))
-  owned-here = counted-here .own ∙ ap (λ (q : ℕ). owned (nodeAt file q)) (sym (c .before .node-place2 .ensures))
+  owned-here : c .node-count .result ≡ stepsOwned (nodeAt file (c .before .node-place2 .result))
+  owned-here = counted-here .own ∙ ap (λ (q : ℕ). stepsOwned (nodeAt file q)) (sym (c .before .node-place2 .ensures))
 
   steps-inside : c .before .before .before .loop .at + 12 * c .node-count .result ≤ length file
   steps-inside =

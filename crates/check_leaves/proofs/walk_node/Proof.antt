@@ -1,4 +1,4 @@
--- `walk_node` meets its contract: a leaf is walked through, any other node passes. Assumes nothing.
+-- `walk_node` meets its contract: a leaf is walked through, any other node passes.
 use mathlib.Core.Path.{refl, sym, ap, _∙_}
 use Rattle.file_records.specs.Kinds.{kindOf}
 use Rattle.check_leaves.proofs.WalkLaws.{leaf-found, other-found}

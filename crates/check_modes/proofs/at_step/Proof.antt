@@ -1,4 +1,4 @@
--- `at_step` meets its contract. Assumes nothing.
+-- `at_step` meets its contract.
 use mathlib.Core.Path.{refl}
 use borrow.Author.Needs.{needs}
 use Rattle.check_modes.proofs.at_step.Statement.{statement}

@@ -1,4 +1,4 @@
--- `entry` meets its contract: the table is the definition's. Assumes nothing.
+-- `entry` meets its contract: the table is the definition's.
 use mathlib.Core.Path.{refl}
 use borrow.Author.Needs.{needs}
 use Rattle.check_modes.specs.Table.{entryAt}

@@ -1,4 +1,4 @@
--- `first_mark` meets its contract. Assumes nothing.
+-- `first_mark` meets its contract.
 use Rattle.check_modes.proofs.Words.{first-agrees}
 use Rattle.check_modes.proofs.first_mark.Statement.{statement}
 use Rattle.check_modes.proofs.first_mark.Tie as tie

@@ -1,4 +1,4 @@
--- `has_bit` meets its contract. Assumes nothing.
+-- `has_bit` meets its contract.
 use native.Mathlib.Omega.{arith}
 use mathlib.Core.Path.{sym}
 use Rattle.actions.proofs.SetLaws.{has-action}

@@ -1,4 +1,4 @@
--- `lead_by` meets its contract: the one mode in which the step is reached. Assumes nothing.
+-- `lead_by` meets its contract: the one mode in which the step is reached.
 use mathlib.Core.Path.{_∙_}
 use borrow.Author.Needs.{needs}
 use Rattle.actions.proofs.Tests.{true-not-false, yes-of, or-false-left, or-false-right}

@@ -1,4 +1,4 @@
--- `lead_in` meets its contract: the entry's two marks. Assumes nothing.
+-- `lead_in` meets its contract: the entry's two marks.
 use borrow.Author.Needs.{needs}
 use Rattle.check_modes.proofs.ModeSteps.{room-parts, lead-both}
 use Rattle.check_modes.proofs.lead_in.Statement.{statement}

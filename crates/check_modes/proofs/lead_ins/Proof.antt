@@ -1,4 +1,4 @@
--- `lead_ins` meets its contract: its row of the table. Assumes nothing.
+-- `lead_ins` meets its contract: its row of the table.
 use mathlib.Core.Path.{refl}
 use lib.Dec.{lit<, lit≤}
 use borrow.Author.Needs.{needs}

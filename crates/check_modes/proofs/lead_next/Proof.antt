@@ -1,4 +1,4 @@
--- `lead_next` meets its contract: a next counts as reached idle. Assumes nothing.
+-- `lead_next` meets its contract: a next counts as reached idle.
 use mathlib.Core.Path.{refl, sym, ap, _∙_, subst}
 use mathlib.Core.List.{List, _++_}
 use lib.Dec.{lit<, lit≤}

@@ -1,4 +1,4 @@
--- `marks_at` meets its contract: a bit of each word is what the marks of an offset are. Assumes nothing.
+-- `marks_at` meets its contract: a bit of each word is what the marks of an offset are.
 use Rattle.check_modes.proofs.Words.{read-here}
 use borrow.Author.Needs.{needs}
 use Rattle.check_modes.proofs.marks_at.Statement.{statement}

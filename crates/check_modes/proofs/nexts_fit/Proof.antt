@@ -1,4 +1,4 @@
--- `nexts_fit` meets its contract: the nexts' word has nothing in common with the other two modes'. Assumes nothing.
+-- `nexts_fit` meets its contract: the nexts' word has nothing in common with the other two modes'.
 use mathlib.Core.Path.{_∙_}
 use mathlib.Core.Bool.{_&&_, not}
 use borrow.Author.Needs.{needs}

@@ -1,4 +1,4 @@
--- `only_bit` meets its contract: the shift loses no bit. Assumes nothing.
+-- `only_bit` meets its contract: the shift loses no bit.
 use Prim.Native.Nat.{ℕ}
 use mathlib.Core.Path.{ap, _∙_}
 use Rattle.actions.specs.Sets.{has}

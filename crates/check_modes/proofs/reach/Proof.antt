@@ -1,4 +1,4 @@
--- `reach` meets its contract: a target that the step has is joined to the word of its mode, one that it does not have is not. Assumes nothing.
+-- `reach` meets its contract: a target that the step has is joined to the word of its mode, one that it does not have is not.
 use Prim.Native.Nat.{ℕ, _<_}
 use native.Mathlib.Omega.{arith}
 use mathlib.Core.Path.{_≡_}

@@ -1,4 +1,4 @@
--- `stands` meets its contract: an entry's first digit. Assumes nothing.
+-- `stands` meets its contract: an entry's first digit.
 use mathlib.Core.Path.{refl}
 use Rattle.check_modes.specs.Table.{mayStand}
 use Rattle.check_modes.proofs.stands.Statement.{statement}

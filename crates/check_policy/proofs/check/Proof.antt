@@ -1,4 +1,4 @@
--- `check` meets its contract: the rules in order, and the rest of the check. Assumes nothing.
+-- `check` meets its contract: the rules in order, and the rest of the check.
 use borrow.Author.Needs.{needs}
 use mathlib.Core.Path.{sym, _∙_}
 use Rattle.check_policy.specs.Answers.{answered}

@@ -1,4 +1,4 @@
--- `check_records` meets its contract: rules 4 to 8 in order, and the rest of the check. Assumes nothing.
+-- `check_records` meets its contract: rules 4 to 8 in order, and the rest of the check.
 use native.Mathlib.Omega.{arith}
 use mathlib.Core.Path.{_≡_, refl, sym, _∙_}
 use mathlib.Core.Bool.{true, false}
@@ -7,7 +7,7 @@ use borrow.Author.Needs.{needs}
 use borrow.Author.Tests.{eqb-true, not-true, not-false}
 use Rattle.spec_policy.specs.Lists.{summed}
 use Rattle.spec_policy.specs.Records.{nodePlace, nodes}
-use Rattle.spec_policy.specs.Tree.{owned}
+use Rattle.spec_policy.specs.Tree.{stepsOwned}
 use Rattle.spec_check.specs.Children.{broken5}
 use Rattle.check_layout.specs.Fits.{nodesFit}
 use Rattle.check_policy.specs.Answers.{answered}
@@ -23,7 +23,7 @@ nodes-kept c = sym (c .before .nodes-fit .ensures) ∙ not-false _ (c .if1 .left
 five-kept : (c : tie.Else2) → broken5 (c .before .before .before .before .before .args .policy .now) ≡ false
 five-kept c = sym (c .before .broken5 .ensures) ∙ c .if2 .left
 
-steps-owned : (c : tie.Else3) → summed (map owned (nodes (c .before .before .before .before .before .before .before .args .policy .now))) ≡ c .before .before .before .before .before .before .before .args .m
+steps-owned : (c : tie.Else3) → summed (map stepsOwned (nodes (c .before .before .before .before .before .before .before .args .policy .now))) ≡ c .before .before .before .before .before .before .before .args .m
 steps-owned c = eqb-true _ _ (sym (c .before .all-owned .ensures) ∙ not-false _ (c .if3 .left))
 
 -- ---- each test

@@ -1,4 +1,4 @@
--- `check_tree` meets its contract: rules 9 and 10, and the two sets of the root. Assumes nothing.
+-- `check_tree` meets its contract: rules 9 and 10, and the two sets of the root.
 use native.Mathlib.Omega.{arith}
 use mathlib.Core.Path.{sym, _∙_}
 use borrow.Author.Needs.{needs}

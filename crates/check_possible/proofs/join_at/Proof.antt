@@ -1,4 +1,4 @@
--- `join_at` meets its contract. Assumes nothing.
+-- `join_at` meets its contract.
 use mathlib.Core.Path.{ap}
 use borrow.Author.Needs.{needs}
 use lib.ListN.{set}

@@ -1,4 +1,4 @@
--- `broken10` meets its contract. The loop's invariant: the spreads of the nodes from i on are kept. Assumes nothing.
+-- `broken10` meets its contract. The loop's invariant: the spreads of the nodes from i on are kept.
 use Prim.Native.Nat.{ℕ, _-_, _≤_, _<_}
 use native.Mathlib.Omega.{arith}
 use mathlib.Core.Path.{refl, ap, _∙_}

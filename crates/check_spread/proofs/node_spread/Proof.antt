@@ -1,4 +1,4 @@
--- `node_spread` meets its contract, kind by kind. Assumes nothing.
+-- `node_spread` meets its contract, kind by kind.
 use Prim.Native.Nat.{_<_}
 use native.Mathlib.Omega.{arith}
 use mathlib.Core.Path.{sym, ap, _∙_}

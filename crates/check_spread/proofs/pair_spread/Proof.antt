@@ -1,4 +1,4 @@
--- `pair_spread` meets its contract. Assumes nothing.
+-- `pair_spread` meets its contract.
 use borrow.Author.Needs.{needs}
 use native.Mathlib.Omega.{arith}
 use mathlib.Core.Path.{_≡_, sym, ap, _∙_}

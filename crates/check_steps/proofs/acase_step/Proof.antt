@@ -1,4 +1,4 @@
--- `acase_step` meets its contract. Assumes nothing.
+-- `acase_step` meets its contract.
 use native.Mathlib.Omega.{arith}
 use mathlib.Core.Path.{refl, sym, ap, ap₂, _∙_}
 use mathlib.Core.Bool.{Bool, _&&_, not}

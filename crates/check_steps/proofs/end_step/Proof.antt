@@ -1,4 +1,4 @@
--- `end_step` meets its contract. Assumes nothing.
+-- `end_step` meets its contract.
 use mathlib.Core.Path.{refl, _∙_}
 use borrow.Author.Needs.{needs}
 use Rattle.spec_policy.specs.Steps.{end, isNext, isIns}

@@ -1,4 +1,4 @@
--- `halt_step` meets its contract. Assumes nothing.
+-- `halt_step` meets its contract.
 use mathlib.Core.Path.{refl, _∙_}
 use borrow.Author.Needs.{needs}
 use Rattle.spec_policy.specs.Steps.{halt, isNext, isIns}

@@ -1,4 +1,4 @@
--- `ins_step` meets its contract. Assumes nothing.
+-- `ins_step` meets its contract.
 use native.Mathlib.Omega.{arith}
 use mathlib.Core.Path.{refl, sym, ap, _∙_}
 use borrow.Author.Needs.{needs}

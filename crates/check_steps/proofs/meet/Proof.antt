@@ -1,4 +1,4 @@
--- `meet` meets its contract: each value of the enum by its own function. Assumes nothing.
+-- `meet` meets its contract: each value of the enum by its own function.
 use mathlib.Core.Path.{refl, ap}
 use borrow.Author.Needs.{needs}
 use Rattle.actions.specs.Sets.{EMPTY}

@@ -1,4 +1,4 @@
--- `ok_step` meets its contract. Assumes nothing.
+-- `ok_step` meets its contract.
 use native.Mathlib.Omega.{arith}
 use mathlib.Core.Path.{refl, sym, _∙_}
 use borrow.Author.Needs.{needs}

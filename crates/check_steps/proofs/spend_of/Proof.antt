@@ -1,4 +1,4 @@
--- `spend_of` meets its contract: by the operand. Assumes nothing.
+-- `spend_of` meets its contract: by the operand.
 use mathlib.Core.Path.{ap}
 use borrow.Author.Needs.{needs}
 use Rattle.file_records.specs.Kinds.{spendOf}

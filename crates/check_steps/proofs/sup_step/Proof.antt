@@ -1,4 +1,4 @@
--- `sup_step` meets its contract. Assumes nothing.
+-- `sup_step` meets its contract.
 use native.Mathlib.Omega.{arith}
 use mathlib.Core.Path.{refl, sym, ap, _∙_}
 use borrow.Author.Needs.{needs}

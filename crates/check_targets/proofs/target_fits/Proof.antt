@@ -1,4 +1,4 @@
--- `target_fits` meets its contract. Assumes nothing.
+-- `target_fits` meets its contract.
 use native.Mathlib.Omega.{arith}
 use mathlib.Core.Path.{refl, _∙_}
 use Rattle.actions.proofs.Tests.{true-not-false}

@@ -1,4 +1,4 @@
--- `byte` meets its contract: one byte is a number of one byte. Assumes nothing.
+-- `byte` meets its contract: one byte is a number of one byte.
 use mathlib.Core.Path.{sym}
 use borrow.Author.Needs.{needs}
 use Rattle.spec_policy.proofs.NumberLaws.{number-byte}

@@ -1,4 +1,4 @@
--- `join4` meets its contract. Assumes nothing.
+-- `join4` meets its contract.
 use Prim.Native.Nat.{_+_, _*_}
 use native.Mathlib.Omega.{arith}
 use mathlib.Core.Path.{_∙_}

@@ -1,4 +1,4 @@
--- `join8` meets its contract. Assumes nothing.
+-- `join8` meets its contract.
 use Prim.Native.Nat.{_+_, _*_}
 use mathlib.Core.Path.{_∙_}
 use Rattle.file_records.proofs.Words.{join-eight}

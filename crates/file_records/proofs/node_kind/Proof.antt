@@ -1,4 +1,4 @@
--- `node_kind` meets its contract. Assumes nothing.
+-- `node_kind` meets its contract.
 use borrow.Author.Needs.{needs}
 use mathlib.Core.Path.{sym, ap, _∙_}
 use Rattle.spec_policy.specs.Records.{nodeAt}

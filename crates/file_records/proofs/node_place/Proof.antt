@@ -1,4 +1,4 @@
--- `node_place` meets its contract. Assumes nothing.
+-- `node_place` meets its contract.
 use borrow.Author.Needs.{needs}
 use mathlib.Core.Path.{refl}
 use Rattle.spec_policy.specs.Records.{nodePlace}

@@ -1,4 +1,4 @@
--- `node_right` meets its contract. Assumes nothing.
+-- `node_right` meets its contract.
 use borrow.Author.Needs.{needs}
 use Rattle.spec_policy.specs.Records.{nodeAt}
 use Rattle.file_records.proofs.node_right.Statement.{statement}

@@ -1,4 +1,4 @@
--- `node_set` meets its contract. Assumes nothing.
+-- `node_set` meets its contract.
 use borrow.Author.Needs.{needs}
 use Rattle.spec_policy.specs.Records.{nodeAt}
 use Rattle.file_records.proofs.node_set.Statement.{statement}

@@ -1,4 +1,4 @@
--- `nodes_of` meets its contract. Assumes nothing.
+-- `nodes_of` meets its contract.
 use borrow.Author.Needs.{needs}
 use Rattle.spec_policy.specs.Records.{nodeCount}
 use Rattle.file_records.proofs.nodes_of.Statement.{statement}

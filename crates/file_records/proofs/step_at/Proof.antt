@@ -1,8 +1,8 @@
--- `step_at` meets its contract. Assumes nothing.
+-- `step_at` meets its contract.
 use mathlib.Core.Path.{_≡_, sym, ap, ap₂, _∙_}
 use Prim.Native.Nat.{ℕ}
 use borrow.Author.Needs.{needs}
-use Rattle.spec_policy.specs.Records.{rowAt}
+use Rattle.spec_policy.specs.Records.{stepRecordAt}
 use Rattle.spec_policy.specs.Steps.{Step, next, ok, sup, ins, acase, spend, stepOf}
 use Rattle.file_records.specs.Kinds.{stepMeant, stepValue}
 use Rattle.file_records.proofs.Rows.{of-kind, steps-else}
@@ -81,11 +81,11 @@ returns-7 c =
     ap stepValue (of-kind _ _ 7 (sym (c .match .keys7) ∙ c .before .before .before .byte .ensures))
 
 returns-8 : tie.Need-returns-8
-unfolding stepMeant stepValue rowAt
+unfolding stepMeant stepValue stepRecordAt
 returns-8 c =
     let r = c .match .rest in
     let e = c .before .before .before .byte .ensures in
-    ap stepValue (sym (steps-else (rowAt _ _)
+    ap stepValue (sym (steps-else (stepRecordAt _ _)
     (λ k. r .0 .0 .0 .0 .0 .0 .1 (e ∙ k)) (λ k. r .0 .0 .0 .0 .0 .1 (e ∙ k)) (λ k. r .0 .0 .0 .0 .1 (e ∙ k)) (λ k. r .0 .0 .0 .1 (e ∙ k)) (λ k. r .0 .0 .1 (e ∙ k)) (λ k. r .0 .1 (e ∙ k)) (λ k. r .1 (e ∙ k))))
 
 pub step-at-spec : {M : Type 1} → statement M

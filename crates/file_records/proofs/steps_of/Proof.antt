@@ -1,4 +1,4 @@
--- `steps_of` meets its contract. Assumes nothing.
+-- `steps_of` meets its contract.
 use borrow.Author.Needs.{needs}
 use Rattle.spec_policy.specs.Records.{stepCount}
 use Rattle.file_records.proofs.steps_of.Statement.{statement}

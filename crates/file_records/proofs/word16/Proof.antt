@@ -1,4 +1,4 @@
--- `word16` meets its contract. Assumes nothing.
+-- `word16` meets its contract.
 use borrow.Author.Needs.{needs}
 use native.Mathlib.Omega.{arith}
 use Rattle.spec_policy.proofs.NumberLaws.{number-join}

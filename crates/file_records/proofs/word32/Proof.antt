@@ -1,4 +1,4 @@
--- `word32` meets its contract. Assumes nothing.
+-- `word32` meets its contract.
 use mathlib.Core.Path.{_∙_}
 use Rattle.file_records.proofs.Words.{spell-four}
 use borrow.Author.Needs.{needs}

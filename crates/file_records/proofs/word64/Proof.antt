@@ -1,4 +1,4 @@
--- `word64` meets its contract. Assumes nothing.
+-- `word64` meets its contract.
 use mathlib.Core.Path.{_∙_}
 use Rattle.file_records.proofs.Words.{spell-eight}
 use borrow.Author.Needs.{needs}

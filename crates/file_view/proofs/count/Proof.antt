@@ -1,4 +1,4 @@
--- `file_view::count` meets its contract: `Getter.antt`'s walk, at `node_count`. Assumes nothing.
+-- `file_view::count` meets its contract: `Getter.antt`'s walk, at `node_count`.
 use mathlib.Core.Path.{_≡_}
 use contract.Running.{givenOf, tables, tablesOf}
 use mir.Syntax.{w8, tyInt}

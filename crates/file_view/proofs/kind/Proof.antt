@@ -1,4 +1,4 @@
--- `file_view::kind` meets its contract: `Getter.antt`'s walk, at `node_kind`. Assumes nothing.
+-- `file_view::kind` meets its contract: `Getter.antt`'s walk, at `node_kind`.
 use mathlib.Core.Path.{_≡_}
 use contract.Running.{givenOf, tables, tablesOf}
 use denote.Enum.Laws as EL

@@ -1,4 +1,4 @@
--- `file_view::left` meets its contract: `Getter.antt`'s walk, at `node_left`. Assumes nothing.
+-- `file_view::left` meets its contract: `Getter.antt`'s walk, at `node_left`.
 use mathlib.Core.Path.{_≡_}
 use contract.Running.{givenOf, tables, tablesOf}
 use mir.Syntax.{w8, tyInt}

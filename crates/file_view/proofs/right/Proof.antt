@@ -1,4 +1,4 @@
--- `file_view::right` meets its contract: `Getter.antt`'s walk, at `node_right`. Assumes nothing.
+-- `file_view::right` meets its contract: `Getter.antt`'s walk, at `node_right`.
 use mathlib.Core.Path.{_≡_}
 use contract.Running.{givenOf, tables, tablesOf}
 use mir.Syntax.{w8, tyInt}

@@ -1,4 +1,4 @@
--- `file_view::set` meets its contract: `Getter.antt`'s walk, at `node_set`. Assumes nothing.
+-- `file_view::set` meets its contract: `Getter.antt`'s walk, at `node_set`.
 use mathlib.Core.Path.{_≡_}
 use contract.Running.{givenOf, tables, tablesOf}
 use denote.Struct.Laws as LL

@@ -1,4 +1,4 @@
--- `file_view::start` meets its contract: `Getter.antt`'s walk, at `node_start`. Assumes nothing.
+-- `file_view::start` meets its contract: `Getter.antt`'s walk, at `node_start`.
 use mathlib.Core.Path.{_≡_}
 use Prim.Native.Nat.{_<_}
 use contract.Running.{givenOf, tables, tablesOf}

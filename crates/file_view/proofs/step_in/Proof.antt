@@ -1,8 +1,8 @@
--- `step_in` meets its contract. Assumes nothing.
+-- `step_in` meets its contract.
 use Prim.Native.Nat.{ℕ, _+_, _*_}
 use mathlib.Core.Path.{ap, _∙_}
 use borrow.Author.Needs.{needs}
-use Rattle.spec_policy.specs.Records.{rowAt}
+use Rattle.spec_policy.specs.Records.{stepRecordAt}
 use Rattle.spec_policy.specs.Steps.{stepOf}
 use Rattle.file_records.specs.Kinds.{stepValue}
 use Rattle.file_view.proofs.step_in.Statement.{statement}
@@ -23,7 +23,7 @@ step-at-requires c κs = search needs
 returns : tie.Need-returns
 returns c =
     let a = c .before .before .before .args in
-    c .step-at .ensures ∙ ap (λ (p : ℕ). stepValue (stepOf (rowAt (a .file .now) (p + 12 * a .number)))) (c .before .node-place .ensures)
+    c .step-at .ensures ∙ ap (λ (p : ℕ). stepValue (stepOf (stepRecordAt (a .file .now) (p + 12 * a .number)))) (c .before .node-place .ensures)
 
 pub step-in-spec : {M : Type 1} → statement M
 step-in-spec = tie.close (tie.spec node-place-requires mul-step-at add-step-at step-at-requires returns)

@@ -1,6 +1,6 @@
 -- `file_view::view_of` meets its contract: a walk of its MIR, by hand. The two counts are asked for, and a view is made of them and the file. All that the proof knows of the three callees is that each meets its contract.
 -- A `&[u8]` is Copy, so each callee is passed what the file owns, and it is kept for the exit.
--- Assumes nothing.
+--
 use mathlib.Core.Path.{_≡_, refl, _∙_}
 use Prim.Native.Nat.{ℕ, _≤_, _<_}
 use mathlib.Core.List.{List, [], _∷_}

@@ -6,7 +6,7 @@ use mathlib.Core.List.{List}
 use lib.ListN.{length}
 use contract.Running.{givenOf, tables, tablesOf}
 use denote.Enum.Laws as EL
-use Rattle.spec_policy.specs.Records.{frontSize, stepSize, nodeCount, nodePlace, rowAt}
+use Rattle.spec_policy.specs.Records.{frontSize, stepSize, nodeCount, nodePlace, stepRecordAt}
 use Rattle.spec_policy.specs.Steps.{stepOf}
 use Rattle.file_records.specs.Kinds.{stepValue}
 use Rattle.file_records.proofs.Step as S
@@ -43,7 +43,7 @@ unfolding code.routine tablesOf
 view-step-spec 𝓤 H 𝓜 𝓖 𝓡 =
     entered 𝓤 H (tripleOf 𝓤 H (𝓖 .A) view-step.signature (view-step.spec 𝓤 H (𝓖 .A) (𝓜 .mem) (𝓡 .run)))
     (tables 𝓤 H 𝓜 𝓡 code.env .C) (tables 𝓤 H 𝓜 𝓡 code.env .Λ) #file-view·view-step code.function (code.unfolded 𝓤 H 𝓜 𝓡)
-    (asker-meets 𝓤 H (𝓖 .A) (givenOf 𝓤 H 𝓜 𝓖) (𝓜 .mem) (𝓡 .run) S.the-row P (λ d n r. r ≡ stepValue (stepOf (rowAt (now (d .file)) (nodePlace (d .nodes) + stepSize * n)))) P′ (λ file n r. r ≡ stepValue (stepOf (rowAt file (nodePlace (nodeCount file) + stepSize * n)))) asks (λ s n r said. said)
+    (asker-meets 𝓤 H (𝓖 .A) (givenOf 𝓤 H 𝓜 𝓖) (𝓜 .mem) (𝓡 .run) S.the-row P (λ d n r. r ≡ stepValue (stepOf (stepRecordAt (now (d .file)) (nodePlace (d .nodes) + stepSize * n)))) P′ (λ file n r. r ≡ stepValue (stepOf (stepRecordAt file (nodePlace (nodeCount file) + stepSize * n)))) asks (λ s n r said. said)
     S′.mir (λ r w is. EL.lawful S.the-type S′.the-laws 𝓤 H (𝓖 .A) (givenOf 𝓤 H 𝓜 𝓖) tt .typed r _ is .0) getter-def.name (tablesOf 𝓤 H 𝓜 (tables 𝓤 H 𝓜 𝓡 code.env))
     (cited 𝓤 H (tripleOf 𝓤 H (𝓖 .A) view-of.signature (view-of.spec 𝓤 H (𝓖 .A) (𝓜 .mem) (𝓡 .run))) 𝓜 𝓡 code.env view-of-def.name view-of-def.routine code.calls-file-view·view-of (view-of-thm.met 𝓤 H 𝓜 𝓖 𝓡))
     (cited 𝓤 H (tripleOf 𝓤 H (𝓖 .A) getter.signature (getter.spec 𝓤 H (𝓖 .A) (𝓜 .mem) (𝓡 .run))) 𝓜 𝓡 code.env getter-def.name getter-def.routine code.calls-file-view·step (getter-thm.met 𝓤 H 𝓜 𝓖 𝓡)))

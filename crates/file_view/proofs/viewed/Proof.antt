@@ -1,6 +1,6 @@
 -- `file_view::viewed` meets its contract: a walk of its MIR, by hand. A view is made of the slice and the two numbers, in the result's local.
 -- A `&[u8]` is Copy, so what it owns is had twice: once for file at exit, and once inside the result.
--- Assumes nothing.
+--
 use mathlib.Core.Path.{refl}
 use Prim.Native.Nat.{ℕ, _<_, _^_}
 use mathlib.Core.List.{List, [], _∷_}

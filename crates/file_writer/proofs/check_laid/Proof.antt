@@ -1,4 +1,4 @@
--- `check_laid` meets its contract. Assumes nothing.
+-- `check_laid` meets its contract.
 use native.Mathlib.Omega.{arith}
 use mathlib.Core.Path.{sym, ap, _∙_}
 use lib.Seq.{length-take-le}

@@ -1,4 +1,4 @@
--- `copy_at` meets its contract. Assumes nothing.
+-- `copy_at` meets its contract.
 use borrow.Author.Needs.{needs}
 use Rattle.file_writer.proofs.Lays.{copied}
 use Rattle.file_writer.proofs.copy_at.Statement.{statement}

@@ -1,4 +1,4 @@
--- `front` meets its contract: each byte is the definition's. Assumes nothing.
+-- `front` meets its contract: each byte is the definition's.
 use mathlib.Core.Path.{refl}
 use borrow.Author.Needs.{needs}
 use Rattle.spec_policy.specs.Bytes.{spell}

@@ -1,4 +1,4 @@
--- `lay` meets its contract: the front, then the nodes, then the steps. Assumes nothing.
+-- `lay` meets its contract: the front, then the nodes, then the steps.
 use native.Mathlib.Omega.{arith}
 use mathlib.Core.Path.{ap}
 use lib.ListN.{length}

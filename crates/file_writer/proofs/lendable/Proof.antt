@@ -1,4 +1,4 @@
--- `lendable` meets its contract. Assumes nothing.
+-- `lendable` meets its contract.
 use mathlib.Core.Path.{refl}
 use Rattle.spec_writer.specs.Writing.{holds, whole}
 use Rattle.spec_writer.specs.Lent.{lendable}

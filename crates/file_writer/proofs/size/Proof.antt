@@ -1,4 +1,4 @@
--- `size` meets its contract. Assumes nothing.
+-- `size` meets its contract.
 use native.Mathlib.Omega.{arith}
 use borrow.Author.Needs.{needs}
 use Rattle.spec_writer.proofs.Files.{written-length}

@@ -1,4 +1,4 @@
--- `write` meets its contract: the refusals in their order, or the file. Assumes nothing.
+-- `write` meets its contract: the refusals in their order, or the file.
 use native.Mathlib.Omega.{arith}
 use mathlib.Core.Path.{sym, _∙_}
 use borrow.Author.Needs.{needs}
@@ -22,7 +22,7 @@ returns-2 c =
     let a = c .before .before .before .before .before .before .before .before .before .args in
     let l = lendable-lent (a .nodes .now) (a .steps .now) (sym (c .before .before .before .before .before .lendable .ensures) ∙ not-false _ (c .before .before .before .before .if1 .left)) in
     let e = c .before .enum-told2 .given .1 in
-    gave-refused (a .nodes .now) (a .steps .now) (a .out .now) l (check-refuses _ (c .before .before .before .check-laid .ensures) e) (number-refuses (c .number .ensures) e)
+    gave-refused (a .nodes .now) (a .steps .now) (a .out .now) l (check-refuses _ (c .before .before .before .check-laid .ensures) e) (number-refuses (c .refusal-number .ensures) e)
 
 size-requires : tie.Need-size-requires
 size-requires c κs = lendable-lent _ _ (sym (c .before .before .before .before .lendable .ensures) ∙ not-false _ (c .before .before .before .if1 .left))

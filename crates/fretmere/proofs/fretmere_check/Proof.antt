@@ -1,4 +1,4 @@
--- `fretmere_check` meets its contract. Assumes nothing.
+-- `fretmere_check` meets its contract.
 use mathlib.Core.Path.{_∙_, sym, ap}
 use Rattle.check_policy.specs.Answers.{answered}
 use Rattle.fretmere.proofs.WordLaws.{passed-says, refused-says}

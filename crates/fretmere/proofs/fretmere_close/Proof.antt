@@ -1,4 +1,4 @@
--- `fretmere_close` meets its contract. Assumes nothing.
+-- `fretmere_close` meets its contract.
 use borrow.Author.Needs.{needs}
 use Rattle.spec_turns.specs.Turn.{close}
 use Rattle.spec_turns.specs.Entries.{closes}

@@ -1,4 +1,4 @@
--- `fretmere_offer` meets its contract. Assumes nothing.
+-- `fretmere_offer` meets its contract.
 use borrow.Author.Needs.{needs}
 use Rattle.spec_turns.specs.Turn.{offer}
 use Rattle.spec_turns.specs.Entries.{offers}

@@ -1,4 +1,4 @@
--- `fretmere_open` meets its contract. Assumes nothing.
+-- `fretmere_open` meets its contract.
 use borrow.Author.Needs.{needs}
 use Rattle.spec_turns.specs.Turn.{opening}
 use Rattle.spec_turns.specs.Entries.{opens}

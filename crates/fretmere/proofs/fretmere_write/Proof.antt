@@ -1,4 +1,4 @@
--- `fretmere_write` meets its contract. Assumes nothing.
+-- `fretmere_write` meets its contract.
 use borrow.Author.Needs.{needs}
 use Rattle.fretmere.proofs.fretmere_write.Statement.{statement}
 use Rattle.fretmere.proofs.fretmere_write.Tie as tie

@@ -1,4 +1,4 @@
--- `packed` meets its contract. Assumes nothing.
+-- `packed` meets its contract.
 use native.Mathlib.Omega.{arith}
 use mathlib.Core.Path.{_∙_, sym, subst}
 use borrow.Author.Needs.{needs}

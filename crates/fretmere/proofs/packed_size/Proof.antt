@@ -1,4 +1,4 @@
--- `packed_size` meets its contract. Assumes nothing.
+-- `packed_size` meets its contract.
 use mathlib.Core.Path.{_∙_, sym}
 use borrow.Author.Needs.{needs}
 use Rattle.fretmere.proofs.WordLaws.{size-word, refused-size}

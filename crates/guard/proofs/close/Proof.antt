@@ -1,4 +1,4 @@
--- `close` meets its contract: the check's refusal, refusal 11 or 12, or the call carried out. Assumes nothing.
+-- `close` meets its contract: the check's refusal, refusal 11 or 12, or the call carried out.
 use mathlib.Core.Path.{sym, _∙_}
 use borrow.Author.Needs.{needs}
 use Rattle.spec_check.proofs.Passed.{passed}
@@ -17,7 +17,7 @@ unfolding closes
 returns c =
     let a = c .before .before .before .before .before .before .before .args in
     let e = c .before .enum-told2 .given .1 in
-    refused-file (a .policy .now) spec.close (a .state .now) (a .events .now) _ (check-refuses (a .policy .now) (c .before .before .before .check .ensures) e) (number-refuses (c .number .ensures) e)
+    refused-file (a .policy .now) spec.close (a .state .now) (a .events .now) _ (check-refuses (a .policy .now) (c .before .before .before .check .ensures) e) (number-refuses (c .refusal-number .ensures) e)
 
 returns-2 : tie.Need-returns-2
 unfolding closes refusals

@@ -1,4 +1,4 @@
--- `offer` meets its contract: the check's refusal, refusals 11 to 14 in order, or the call carried out. Assumes nothing.
+-- `offer` meets its contract: the check's refusal, refusals 11 to 14 in order, or the call carried out.
 use native.Mathlib.Omega.{arith}
 use mathlib.Core.Path.{sym, _∙_}
 use borrow.Author.Needs.{needs}
@@ -18,7 +18,7 @@ unfolding offers
 returns c =
     let a = c .before .before .before .before .before .before .before .args in
     let e = c .before .enum-told .given .1 in
-    refused-file (a .policy .now) (spec.offer (a .action)) (a .state .now) (a .events .now) _ (check-refuses (a .policy .now) (c .before .before .before .check .ensures) e) (number-refuses (c .number .ensures) e)
+    refused-file (a .policy .now) (spec.offer (a .action)) (a .state .now) (a .events .now) _ (check-refuses (a .policy .now) (c .before .before .before .check .ensures) e) (number-refuses (c .refusal-number .ensures) e)
 
 returns-2 : tie.Need-returns-2
 unfolding offers refusals

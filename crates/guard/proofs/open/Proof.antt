@@ -1,4 +1,4 @@
--- `open` meets its contract: the check's refusal, refusal 11, or the call carried out. Assumes nothing.
+-- `open` meets its contract: the check's refusal, refusal 11, or the call carried out.
 use mathlib.Core.Path.{sym, _∙_}
 use borrow.Author.Needs.{needs}
 use Rattle.check_policy.proofs.Answers.{check-passes, check-refuses, number-refuses}
@@ -16,7 +16,7 @@ unfolding opens
 returns c =
     let a = c .before .before .before .before .before .before .before .args in
     let e = c .before .enum-told2 .given .1 in
-    refused-file (a .policy .now) opening (a .state .now) (a .events .now) _ (check-refuses (a .policy .now) (c .before .before .before .check .ensures) e) (number-refuses (c .number .ensures) e)
+    refused-file (a .policy .now) opening (a .state .now) (a .events .now) _ (check-refuses (a .policy .now) (c .before .before .before .check .ensures) e) (number-refuses (c .refusal-number .ensures) e)
 
 returns-2 : tie.Need-returns-2
 unfolding opens refusals

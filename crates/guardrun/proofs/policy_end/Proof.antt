@@ -1,4 +1,4 @@
--- `policy_end` meets its contract. Assumes nothing.
+-- `policy_end` meets its contract.
 use mathlib.Core.Path.{_∙_, ap}
 use native.Mathlib.Omega.{arith}
 use Rattle.guardrun.specs.Printed.{policyEnd}

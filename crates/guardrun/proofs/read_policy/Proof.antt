@@ -1,4 +1,4 @@
--- `read_policy` meets its contract. Assumes nothing.
+-- `read_policy` meets its contract.
 use mathlib.Core.Path.{sym}
 use native.Mathlib.Omega.{arith}
 use Prim.Native.Nat.{_≤_}

@@ -1,4 +1,4 @@
--- `run` is safe and ends: the buffers keep their lengths, and the measure is the number of turns that are left. Assumes nothing.
+-- `run` is safe and ends: the buffers keep their lengths, and the measure is the number of turns that are left.
 use mathlib.Core.Path.{_≡_}
 use native.Mathlib.Omega.{arith}
 use lib.ListN.{length}

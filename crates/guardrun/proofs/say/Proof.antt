@@ -1,4 +1,4 @@
--- `say` meets its contract. Assumes nothing.
+-- `say` meets its contract.
 use mathlib.Core.Path.{sym}
 use lib.Seq.{length-take-le}
 use Rattle.actions.proofs.Tests.{true-not-false}

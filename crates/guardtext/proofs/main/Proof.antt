@@ -1,4 +1,4 @@
--- `main` is safe: a text that was put lies in its room. Assumes nothing.
+-- `main` is safe: a text that was put lies in its room.
 use mathlib.Core.Path.{sym}
 use lib.Seq.{length-take-le}
 use borrow.Author.Needs.{needs}

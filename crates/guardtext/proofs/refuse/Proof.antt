@@ -1,4 +1,4 @@
--- `refuse` meets its contract. Assumes nothing.
+-- `refuse` meets its contract.
 use Prim.Native.Nat.{ℕ}
 use mathlib.Core.Path.{_≡_}
 use native.Mathlib.Omega.{arith}

@@ -1,4 +1,4 @@
--- `tell` meets its contract. Assumes nothing.
+-- `tell` meets its contract.
 use mathlib.Core.Path.{sym, ap, _∙_}
 use Rattle.spec_check.proofs.Passed.{passed}
 use Rattle.check_policy.specs.Answers as checked

@@ -1,4 +1,4 @@
--- `answered` meets its contract: three texts, one after the other. Assumes nothing.
+-- `answered` meets its contract: three texts, one after the other.
 use mathlib.Core.Path.{ap}
 use mathlib.Core.Bool.{Bool}
 use native.Mathlib.Omega.{arith}

@@ -1,4 +1,4 @@
--- `append_events` meets its contract and ends: what is put is the lines of the events passed. Assumes nothing.
+-- `append_events` meets its contract and ends: what is put is the lines of the events passed.
 use Prim.Native.Nat.{ℕ, _-_, _≤_}
 use mathlib.Core.Path.{_≡_, refl, _∙_, ap}
 use native.Mathlib.Omega.{arith}

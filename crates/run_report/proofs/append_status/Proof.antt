@@ -1,4 +1,4 @@
--- `append_status` meets its contract: a word for each status. Assumes nothing.
+-- `append_status` meets its contract: a word for each status.
 use borrow.Author.Needs.{needs}
 use Rattle.spec_turns.specs.Status.{statusOf}
 use Rattle.spec_text.specs.Words.{ascii}

@@ -1,4 +1,4 @@
--- `begin` meets its contract. Assumes nothing.
+-- `begin` meets its contract.
 use borrow.Author.Needs.{needs}
 use Rattle.spec_turns.specs.Status.{statusOf}
 use Rattle.spec_turns.specs.Turn.{Request}

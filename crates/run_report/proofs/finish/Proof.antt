@@ -1,4 +1,4 @@
--- `finish` meets its contract. Assumes nothing.
+-- `finish` meets its contract.
 use mathlib.Core.Path.{ap, sym}
 use mathlib.Core.Bool.{Bool}
 use borrow.Author.Needs.{needs}

@@ -1,4 +1,4 @@
--- `is_last` meets its contract. Assumes nothing.
+-- `is_last` meets its contract.
 use mathlib.Core.Path.{_∙_}
 use borrow.Author.Needs.{needs}
 use Rattle.spec_turns.specs.Status.{statusOf}

@@ -1,4 +1,4 @@
--- `kind` meets its contract. Assumes nothing.
+-- `kind` meets its contract.
 use Rattle.spec_text.specs.Words.{ascii}
 use Rattle.run_report.proofs.LineLaws.{kind-acc, kind-sup, kind-ins}
 use Rattle.run_report.proofs.kind.Statement.{statement}

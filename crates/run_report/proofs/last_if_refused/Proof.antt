@@ -1,4 +1,4 @@
--- `last_if_refused` meets its contract. Assumes nothing.
+-- `last_if_refused` meets its contract.
 use borrow.Author.Needs.{needs}
 use Rattle.call_answer.specs.Requests.{asked}
 use Rattle.run_report.specs.Said.{lastIfRefused}

@@ -1,4 +1,4 @@
--- `refused` meets its contract. Assumes nothing.
+-- `refused` meets its contract.
 use borrow.Author.Needs.{needs}
 use Rattle.run_report.specs.Said.{said}
 use native.Mathlib.Omega.{arith}

@@ -1,4 +1,4 @@
--- `append_number` meets its contract. The measure: the number. Assumes nothing.
+-- `append_number` meets its contract. The measure: the number.
 use native.Mathlib.Omega.{arith}
 use mathlib.Core.Path.{_∙_}
 use borrow.Author.Needs.{needs}

@@ -1,4 +1,4 @@
--- `append` meets its contract. Assumes nothing.
+-- `append` meets its contract.
 use native.Mathlib.Omega.{arith}
 use mathlib.Core.Path.{sym}
 use lib.Seq.{length-take-le}

@@ -1,4 +1,4 @@
--- `append_member` meets its contract. Assumes nothing.
+-- `append_member` meets its contract.
 use mathlib.Core.Path.{sym, _∙_}
 use Rattle.text_append.proofs.AddedLaws.{nothing, joined, named, member-none, member-first, member-next}
 use borrow.Author.Needs.{needs}

@@ -1,4 +1,4 @@
--- `append_members` meets its contract and ends: what is left of the set makes the rest of its text. Assumes nothing.
+-- `append_members` meets its contract and ends: what is left of the set makes the rest of its text.
 use Prim.Native.Nat.{ℕ, _+_, _-_, _≤_}
 use mathlib.Core.Path.{_≡_, refl, _∙_, ap}
 use mathlib.Core.Bool.{Bool, _&&_, not}

@@ -1,4 +1,4 @@
--- `append_set` meets its contract. Assumes nothing.
+-- `append_set` meets its contract.
 use Rattle.spec_text.specs.Printing.{argument}
 use Rattle.text_append.proofs.AddedLaws.{joined}
 use borrow.Author.Needs.{needs}

@@ -1,4 +1,4 @@
--- `reach` meets its contract. Assumes nothing.
+-- `reach` meets its contract.
 use Prim.Native.Nat.{ℕ}
 use native.Mathlib.Omega.{arith}
 use mathlib.Core.Path.{sym, ap}

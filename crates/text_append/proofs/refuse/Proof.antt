@@ -1,4 +1,4 @@
--- `refuse` meets its contract: three texts, one after the other. Assumes nothing.
+-- `refuse` meets its contract: three texts, one after the other.
 use borrow.Author.Needs.{needs}
 use Rattle.spec_text.specs.Words.{ascii}
 use Rattle.text_append.specs.Refusal.{refusal}

@@ -1,4 +1,4 @@
--- `adds` meets its contract. Assumes nothing.
+-- `adds` meets its contract.
 use native.Mathlib.Omega.{arith}
 use Rattle.text_fault.proofs.StartLaws.{adds-one, adds-none}
 use Rattle.text_fault.proofs.adds.Statement.{statement}

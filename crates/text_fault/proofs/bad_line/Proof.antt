@@ -1,4 +1,4 @@
--- `bad_line` meets its contract: the line's number, what was expected in it, and the line's end. Assumes nothing.
+-- `bad_line` meets its contract: the line's number, what was expected in it, and the line's end.
 use mathlib.Core.Path.{_∙_}
 use borrow.Author.Needs.{needs}
 use Rattle.spec_text.specs.Words.{ascii}

@@ -1,4 +1,4 @@
--- `expect` meets its contract: nothing, a step out of its place, or what cannot be read. Assumes nothing.
+-- `expect` meets its contract: nothing, a step out of its place, or what cannot be read.
 use Prim.Native.Nat.{_<_}
 use native.Mathlib.Omega.{arith}
 use mathlib.Core.Path.{sym, ap, _∙_}

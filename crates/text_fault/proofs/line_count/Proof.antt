@@ -1,4 +1,4 @@
--- `line_count` meets its contract and ends: the newlines passed, and the lines that are left. Assumes nothing.
+-- `line_count` meets its contract and ends: the newlines passed, and the lines that are left.
 use Prim.Native.Nat.{_+_, _-_, _≤_}
 use native.Mathlib.Omega.{arith}
 use mathlib.Core.Path.{_≡_}

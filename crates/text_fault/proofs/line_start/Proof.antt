@@ -1,4 +1,4 @@
--- `line_start` meets its contract and ends: so many lines are left up to the one. Assumes nothing.
+-- `line_start` meets its contract and ends: so many lines are left up to the one.
 use Prim.Native.Nat.{_-_, _≤_}
 use native.Mathlib.Omega.{arith}
 use mathlib.Core.Path.{_≡_, refl, ap, _∙_}

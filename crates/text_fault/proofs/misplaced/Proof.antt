@@ -1,4 +1,4 @@
--- `misplaced` meets its contract. Assumes nothing.
+-- `misplaced` meets its contract.
 use borrow.Author.Needs.{needs}
 use Rattle.spec_text.specs.Words.{ascii}
 use Rattle.text_append.proofs.AddedLaws.{named}

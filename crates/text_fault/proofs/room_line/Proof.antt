@@ -1,4 +1,4 @@
--- `room_line` meets its contract: a leaf, another node, or none. Assumes nothing.
+-- `room_line` meets its contract: a leaf, another node, or none.
 use Rattle.text_fault.proofs.RoomLaws.{room-leaf, room-node, room-other}
 use Rattle.text_fault.proofs.room_line.Statement.{statement}
 use Rattle.text_fault.proofs.room_line.Tie as tie

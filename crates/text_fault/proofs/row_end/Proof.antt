@@ -1,4 +1,4 @@
--- `row_end` meets its contract: the table is the definition's. Assumes nothing.
+-- `row_end` meets its contract: the table is the definition's.
 use native.Mathlib.Omega.{arith}
 use mathlib.Core.Path.{refl}
 use borrow.Author.Needs.{needs}

@@ -1,4 +1,4 @@
--- `row_of` meets its contract. Assumes nothing.
+-- `row_of` meets its contract.
 use native.Mathlib.Omega.{arith}
 use mathlib.Core.Path.{refl}
 use Rattle.text_fault.proofs.RowLaws.{row-other}

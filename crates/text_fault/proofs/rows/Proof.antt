@@ -1,4 +1,4 @@
--- `rows` meets its contract: the texts are the table's. Assumes nothing.
+-- `rows` meets its contract: the texts are the table's.
 use mathlib.Core.Path.{refl}
 use Rattle.spec_policy.specs.Lists.{listed}
 use Rattle.spec_text.specs.Words.{ascii}

@@ -1,4 +1,4 @@
--- `usage` meets its contract: the form's row of the table. Assumes nothing.
+-- `usage` meets its contract: the form's row of the table.
 use native.Mathlib.Omega.{arith}
 use mathlib.Core.Path.{sym, ap, _∙_}
 use borrow.Author.Needs.{needs}

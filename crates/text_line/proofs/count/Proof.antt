@@ -1,4 +1,4 @@
--- `count` meets its contract: the table is the definition's. Assumes nothing.
+-- `count` meets its contract: the table is the definition's.
 use native.Mathlib.Omega.{arith}
 use mathlib.Core.Path.{refl}
 use lib.ListN.{length}

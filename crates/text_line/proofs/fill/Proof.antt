@@ -1,4 +1,4 @@
--- `fill` meets its contract and ends: the slots that are left fill the fields with the words that are left. Assumes nothing.
+-- `fill` meets its contract and ends: the slots that are left fill the fields with the words that are left.
 use Prim.Native.Nat.{ℕ, _+_, _-_, _≤_, _<_}
 use native.Mathlib.Omega.{arith}
 use mathlib.Core.Path.{_≡_, refl, sym, ap, _∙_, subst}

@@ -1,4 +1,4 @@
--- `form_of` meets its contract and ends: the forms that are left have the name, if any has it. Assumes nothing.
+-- `form_of` meets its contract and ends: the forms that are left have the name, if any has it.
 use Prim.Native.Nat.{_-_, _≤_}
 use native.Mathlib.Omega.{arith}
 use mathlib.Core.Path.{_≡_, sym, ap, _∙_}

@@ -1,4 +1,4 @@
--- `names` meets its contract: the names are the table's. Assumes nothing.
+-- `names` meets its contract: the names are the table's.
 use mathlib.Core.Path.{refl}
 use Rattle.spec_text.specs.Words.{ascii}
 use Rattle.spec_text.specs.Forms.{forms}

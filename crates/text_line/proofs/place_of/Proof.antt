@@ -1,4 +1,4 @@
--- `place_of` meets its contract. Assumes nothing.
+-- `place_of` meets its contract.
 use mathlib.Core.Path.{_∙_}
 use borrow.Author.Needs.{needs}
 use Rattle.text_line.proofs.SlotLaws.{place-set, place-number}

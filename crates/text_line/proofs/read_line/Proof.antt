@@ -1,4 +1,4 @@
--- `read_line` meets its contract: nothing, no such word, words that do not fit it, or a record. Assumes nothing.
+-- `read_line` meets its contract: nothing, no such word, words that do not fit it, or a record.
 use mathlib.Core.Bool.{Bool}
 use mathlib.Core.Path.{_≡_, subst}
 use lib.ListN.{drop}

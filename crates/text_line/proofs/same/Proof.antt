@@ -1,4 +1,4 @@
--- `same` meets its contract and ends: what is left to compare is what was asked. Assumes nothing.
+-- `same` meets its contract and ends: what is left to compare is what was asked.
 use Prim.Native.Nat.{_-_, _≤_}
 use native.Mathlib.Omega.{arith}
 use mathlib.Core.Path.{_≡_, sym, _∙_}

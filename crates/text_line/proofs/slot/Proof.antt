@@ -1,4 +1,4 @@
--- `slot` meets its contract: the table is the definition's. Assumes nothing.
+-- `slot` meets its contract: the table is the definition's.
 use Prim.Native.Nat.{ℕ}
 use native.Mathlib.Omega.{arith}
 use mathlib.Core.Path.{refl, ap}

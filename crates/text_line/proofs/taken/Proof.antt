@@ -1,4 +1,4 @@
--- `taken` meets its contract: a set, a number of four bytes, or a byte. Assumes nothing.
+-- `taken` meets its contract: a set, a number of four bytes, or a byte.
 use Prim.Native.Nat.{_-_}
 use mathlib.Core.Path.{sym, ap, _∙_}
 use lib.ListN.{drop}

@@ -1,4 +1,4 @@
--- `all_arguments` meets its contract. Assumes nothing.
+-- `all_arguments` meets its contract.
 use Rattle.text_append.proofs.AddedLaws.{joined, named}
 use Rattle.text_lines.proofs.LaidLaws.{arguments-three}
 use borrow.Author.Needs.{needs}

@@ -1,4 +1,4 @@
--- `all_lines` meets its contract and ends: the nodes that are left, with the steps that are left, make the rest of the text. Assumes nothing.
+-- `all_lines` meets its contract and ends: the nodes that are left, with the steps that are left, make the rest of the text.
 use Prim.Native.Nat.{ℕ, _*_, _-_, _/_, _≤_}
 use mathlib.Core.Path.{_≡_, refl, _∙_, ap}
 use native.Mathlib.Omega.{arith}

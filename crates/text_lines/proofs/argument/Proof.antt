@@ -1,4 +1,4 @@
--- `argument` meets its contract. Assumes nothing.
+-- `argument` meets its contract.
 use mathlib.Core.Path.{sym, ap, _∙_}
 use mathlib.Core.List.{_∷_}
 use Prim.Native.Nat.{ℕ}

@@ -1,4 +1,4 @@
--- `begin` meets its contract. Assumes nothing.
+-- `begin` meets its contract.
 use mathlib.Core.Path.{sym, ap}
 use Rattle.spec_text.specs.Words.{ascii}
 use Rattle.spec_text.specs.Printing.{indent}

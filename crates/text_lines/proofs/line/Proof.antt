@@ -1,4 +1,4 @@
--- `line` meets its contract. Assumes nothing.
+-- `line` meets its contract.
 use mathlib.Core.Path.{sym}
 use lib.Seq.{length-take-le}
 use Rattle.text_lines.specs.Laid.{lineAs}

@@ -1,4 +1,4 @@
--- `mark` meets its contract. Assumes nothing.
+-- `mark` meets its contract.
 use mathlib.Core.Path.{sym, ap}
 use Rattle.spec_text.specs.Words.{ascii}
 use Rattle.spec_text.specs.Printing.{remark}

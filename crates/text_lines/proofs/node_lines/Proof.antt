@@ -1,4 +1,4 @@
--- `node_lines` meets its contract. Assumes nothing.
+-- `node_lines` meets its contract.
 use mathlib.Core.Path.{ap}
 use Prim.Native.Nat.{ℕ}
 use native.Mathlib.Omega.{arith}

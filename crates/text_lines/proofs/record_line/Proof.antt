@@ -1,4 +1,4 @@
--- `record_line` meets its contract. Assumes nothing.
+-- `record_line` meets its contract.
 use mathlib.Core.Path.{sym, _∙_, subst}
 use native.Mathlib.Omega.{arith}
 use Prim.Native.Nat.{ℕ}

@@ -1,4 +1,4 @@
--- `step_lines` meets its contract and ends: the steps that are left make the rest of the text. Assumes nothing.
+-- `step_lines` meets its contract and ends: the steps that are left make the rest of the text.
 use Prim.Native.Nat.{ℕ, _*_, _-_, _≤_}
 use mathlib.Core.Path.{_≡_, refl, _∙_, ap}
 use native.Mathlib.Omega.{arith}

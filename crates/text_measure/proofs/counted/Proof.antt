@@ -1,4 +1,4 @@
--- `counted` meets its contract: a node, what cannot be read, nothing, a step astray, a step. Assumes nothing.
+-- `counted` meets its contract: a node, what cannot be read, nothing, a step astray, a step.
 use native.Mathlib.Omega.{arith}
 use borrow.Author.Needs.{needs}
 use Rattle.text_measure.proofs.CountLaws.{counted-node, counted-bad, counted-nothing, counted-astray, counted-step}

@@ -1,4 +1,4 @@
--- `line_at` meets its contract: the line ends with a newline, or with the text. Assumes nothing.
+-- `line_at` meets its contract: the line ends with a newline, or with the text.
 use borrow.Author.Needs.{needs}
 use Rattle.text_measure.proofs.LineLaws.{reads-more, reads-last}
 use Rattle.text_measure.proofs.line_at.Statement.{statement}

@@ -1,4 +1,4 @@
--- `line_end` meets its contract and ends. Assumes nothing.
+-- `line_end` meets its contract and ends.
 use Prim.Native.Nat.{_-_, _≤_, _<_}
 use native.Mathlib.Omega.{arith}
 use mathlib.Core.Path.{_≡_}

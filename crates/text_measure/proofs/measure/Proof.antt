@@ -1,4 +1,4 @@
--- `measure` meets its contract and ends: what was counted, with what is left to read, is the whole. Assumes nothing.
+-- `measure` meets its contract and ends: what was counted, with what is left to read, is the whole.
 use Prim.Native.Nat.{_-_}
 use native.Mathlib.Omega.{arith}
 use lib.ListN.{length}

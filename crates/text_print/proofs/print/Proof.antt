@@ -1,4 +1,4 @@
--- `print` meets its contract: what was measured is written if there is room for it. Assumes nothing.
+-- `print` meets its contract: what was measured is written if there is room for it.
 use native.Mathlib.Omega.{arith}
 use borrow.Author.Needs.{needs}
 use Rattle.text_lines.proofs.LaidLaws.{laid-end}

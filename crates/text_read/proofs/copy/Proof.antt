@@ -1,4 +1,4 @@
--- `copy` meets its contract and ends: what is left to be written is what was to be written. Assumes nothing.
+-- `copy` meets its contract and ends: what is left to be written is what was to be written.
 use Prim.Native.Nat.{_-_, _≤_}
 use native.Mathlib.Omega.{arith}
 use mathlib.Core.Path.{_≡_, refl, _∙_}

@@ -1,4 +1,4 @@
--- `copy_line` meets its contract: a node, a step, or nothing. Assumes nothing.
+-- `copy_line` meets its contract: a node, a step, or nothing.
 use native.Mathlib.Omega.{arith}
 use mathlib.Core.Path.{sym, ap, _∙_}
 use Prim.Native.Nat.{ℕ, _*_}

@@ -1,4 +1,4 @@
--- `lead` meets its contract and ends: the steps counted, and those that are left before the next node. Assumes nothing.
+-- `lead` meets its contract and ends: the steps counted, and those that are left before the next node.
 use Prim.Native.Nat.{_+_, _-_, _≤_}
 use native.Mathlib.Omega.{arith}
 use mathlib.Core.Path.{_≡_}

@@ -1,4 +1,4 @@
--- `node_bytes` meets its contract: each byte is the definition's. Assumes nothing.
+-- `node_bytes` meets its contract: each byte is the definition's.
 use mathlib.Core.Path.{refl}
 use borrow.Author.Needs.{needs}
 use Rattle.spec_policy.specs.Bytes.{spell}

@@ -1,4 +1,4 @@
--- `read` meets its contract: a bad line, a buffer too short, or all records. Assumes nothing.
+-- `read` meets its contract: a bad line, a buffer too short, or all records.
 use mathlib.Core.Path.{sym, ap, _∙_}
 use borrow.Author.Needs.{needs}
 use Rattle.text_measure.specs.Measures.{measured}

@@ -1,4 +1,4 @@
--- `step_of` meets its contract. Assumes nothing.
+-- `step_of` meets its contract.
 use native.Mathlib.Omega.{arith}
 use Rattle.text_read.proofs.LeadLaws.{lead-step, lead-nothing}
 use Rattle.text_read.proofs.step_of.Statement.{statement}

@@ -1,4 +1,4 @@
--- `store` meets its contract and ends: the bytes passed are put. Assumes nothing.
+-- `store` meets its contract and ends: the bytes passed are put.
 use Prim.Native.Nat.{_+_, _-_, _≤_, _<_}
 use native.Mathlib.Omega.{arith}
 use mathlib.Core.Path.{_≡_, refl, ap, _∙_}

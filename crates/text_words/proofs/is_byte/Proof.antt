@@ -1,4 +1,4 @@
--- `is_byte` meets its contract. Assumes nothing.
+-- `is_byte` meets its contract.
 use borrow.Author.Needs.{needs}
 use Rattle.text_words.proofs.TakenLaws.{not-one, one-byte}
 use Rattle.text_words.proofs.is_byte.Statement.{statement}

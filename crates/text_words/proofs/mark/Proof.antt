@@ -1,4 +1,4 @@
--- `mark` meets its contract. Assumes nothing.
+-- `mark` meets its contract.
 use Rattle.spec_text.specs.Words.{mark}
 use Rattle.text_words.specs.Scanned.{markNumber}
 use Rattle.text_words.proofs.ScanLaws.{mark-of, mark-letter}

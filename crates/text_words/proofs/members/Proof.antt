@@ -1,4 +1,4 @@
--- `members` meets its contract and ends: the words that are left are read after the actions that were. Assumes nothing.
+-- `members` meets its contract and ends: the words that are left are read after the actions that were.
 use Prim.Native.Nat.{_≤_, _-_}
 use native.Mathlib.Omega.{arith}
 use mathlib.Core.Path.{_≡_, refl, sym, ap, _∙_}

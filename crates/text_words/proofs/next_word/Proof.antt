@@ -1,4 +1,4 @@
--- `next_word` meets its contract: none, a remark, a brace, or letters. Assumes nothing.
+-- `next_word` meets its contract: none, a remark, a brace, or letters.
 use native.Mathlib.Omega.{arith}
 use mathlib.Core.Path.{sym, _∙_}
 use borrow.Author.Needs.{needs}

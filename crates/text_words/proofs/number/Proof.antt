@@ -1,4 +1,4 @@
--- `number` meets its contract: no word, no number, or a number. Assumes nothing.
+-- `number` meets its contract: no word, no number, or a number.
 use Prim.Native.Nat.{ℕ}
 use native.Mathlib.Omega.{arith}
 use mathlib.Core.Path.{sym, ap, _∙_}

@@ -1,4 +1,4 @@
--- `numeral` meets its contract and ends: what is left of the number is read after what was read of it. Assumes nothing.
+-- `numeral` meets its contract and ends: what is left of the number is read after what was read of it.
 use Prim.Native.Nat.{ℕ, _+_, _*_, _-_, _≤_}
 use native.Mathlib.Omega.{arith}
 use mathlib.Core.Path.{_≡_, refl, sym, ap, _∙_}

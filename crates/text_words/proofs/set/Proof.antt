@@ -1,4 +1,4 @@
--- `set` meets its contract. Assumes nothing.
+-- `set` meets its contract.
 use native.Mathlib.Omega.{arith}
 use mathlib.Core.Path.{sym, _∙_}
 use borrow.Author.Needs.{needs}

@@ -1,4 +1,4 @@
--- `skip` meets its contract and ends. Assumes nothing.
+-- `skip` meets its contract and ends.
 use Prim.Native.Nat.{_≤_, _<_, _-_}
 use native.Mathlib.Omega.{arith}
 use mathlib.Core.Path.{_≡_, refl, sym, ap, _∙_}

@@ -1,4 +1,4 @@
--- `word_end` meets its contract and ends. Assumes nothing.
+-- `word_end` meets its contract and ends.
 use Prim.Native.Nat.{_≤_, _<_, _-_}
 use native.Mathlib.Omega.{arith}
 use mathlib.Core.Path.{_≡_, sym, ap, _∙_}

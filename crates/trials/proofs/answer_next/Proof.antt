@@ -1,4 +1,4 @@
--- `answer_next` is safe: a call that was read is placed. Assumes nothing.
+-- `answer_next` is safe: a call that was read is placed.
 use native.Mathlib.Omega.{arith}
 use Rattle.trials.proofs.CallLaws.{taken-placed}
 use borrow.Author.Needs.{needs}

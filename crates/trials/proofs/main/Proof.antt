@@ -1,4 +1,4 @@
--- `main` is safe and ends: the measure is the number of turns that are left. Assumes nothing.
+-- `main` is safe and ends: the measure is the number of turns that are left.
 use mathlib.Core.Path.{_≡_}
 use lib.ListN.{length}
 use Rattle.trials.specs.Calls.{longest}

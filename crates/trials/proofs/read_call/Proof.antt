@@ -1,4 +1,4 @@
--- `read_call` meets its contract and ends: each turn has more of the call. Assumes nothing.
+-- `read_call` meets its contract and ends: each turn has more of the call.
 use mathlib.Core.Path.{_≡_, _∙_}
 use borrow.Author.Needs.{needs}
 use native.Mathlib.Omega.{arith}

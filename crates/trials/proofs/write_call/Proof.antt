@@ -1,4 +1,4 @@
--- `write_call` is safe. Assumes nothing.
+-- `write_call` is safe.
 use Prim.Native.Nat.{_+_, _-_, _≤_}
 use mathlib.Core.Path.{sym}
 use native.Mathlib.Omega.{arith}

@@ -1,4 +1,4 @@
--- `write_file` is safe. Assumes nothing.
+-- `write_file` is safe.
 use Prim.Native.Nat.{_+_, _-_, _≤_}
 use mathlib.Core.Path.{sym}
 use native.Mathlib.Omega.{arith}

@@ -1,4 +1,4 @@
--- `par_end` meets its contract. Assumes nothing.
+-- `par_end` meets its contract.
 use mathlib.Core.Path.{sym, _∙_}
 use borrow.Author.Needs.{needs}
 use borrow.Author.Tests.{eq-eqb, ne-eqb}

@@ -1,10 +1,10 @@
--- `reread` meets its contract. Assumes nothing.
+-- `reread` meets its contract.
 use Prim.Native.Nat.{ℕ}
 use native.Mathlib.Omega.{arith}
 use mathlib.Core.Path.{refl, sym, ap, _∙_}
 use borrow.Author.Needs.{needs}
 use Rattle.spec_turns.specs.Status.{statusOf}
-use Rattle.turn_memory.specs.Words.{view}
+use Rattle.turn_memory.specs.Words.{memoryOf}
 use Rattle.turn_sides.proofs.Nodes.{sides, placed-here}
 use Rattle.turn_sides.proofs.StatusBytes.{joins}
 use Rattle.turn_memory.proofs.CellLaws.{status-read}
@@ -30,7 +30,7 @@ returns c =
     let m = start .args .mem .now in
     let s = sides (start .pre .0) in
     goes-on _ _ _ (joined .join .result)
-    (joins (joined .join .ensures) refl (status-read m _ (omega (arith, read .before .right-of .ensures, s .right-below, s .few)) (read .status-at .ensures) ∙ ap (λ (i : ℕ). view m i .status) (read .before .right-of .ensures)) (joined .before .join-of .ensures))
+    (joins (joined .join .ensures) refl (status-read m _ (omega (arith, read .before .right-of .ensures, s .right-below, s .few)) (read .status-at .ensures) ∙ ap (λ (i : ℕ). memoryOf m i .status) (read .before .right-of .ensures)) (joined .before .join-of .ensures))
     (sym (c .before .is-running .ensures) ∙ c .if1 .taken)
 
 put-requires : tie.Need-put-requires
@@ -49,7 +49,7 @@ returns-2 c =
     let m = start .args .mem .now in
     let s = sides (start .pre .0) in
     stops _ _ _ _ (joined .join .result) (omega (arith, s .left-later, s .left-below, s .few), omega (arith, s .left-later, s .left-below, s .few, start .pre .1)) (omega arith)
-    (joins (joined .join .ensures) refl (status-read m _ (omega (arith, read .before .right-of .ensures, s .right-below, s .few)) (read .status-at .ensures) ∙ ap (λ (i : ℕ). view m i .status) (read .before .right-of .ensures)) (joined .before .join-of .ensures))
+    (joins (joined .join .ensures) refl (status-read m _ (omega (arith, read .before .right-of .ensures, s .right-below, s .few)) (read .status-at .ensures) ∙ ap (λ (i : ℕ). memoryOf m i .status) (read .before .right-of .ensures)) (joined .before .join-of .ensures))
     (sym (c .before .before .before .is-running .ensures) ∙ c .before .before .if1 .left) (c .put .ensures)
 
 pub reread-spec : {M : Type 1} → statement M

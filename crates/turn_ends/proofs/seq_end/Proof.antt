@@ -1,4 +1,4 @@
--- `seq_end` meets its contract. Assumes nothing.
+-- `seq_end` meets its contract.
 use borrow.Author.Needs.{needs}
 use Rattle.turn_sides.proofs.StatusBytes.{sup-before, later}
 use Rattle.turn_ends.proofs.EndLaws.{seq-told, seq-quiet}

@@ -1,4 +1,4 @@
--- `settle` meets its contract. Assumes nothing.
+-- `settle` meets its contract.
 use native.Mathlib.Omega.{arith}
 use borrow.Author.Needs.{needs}
 use Rattle.turn_sides.proofs.Nodes.{sides}

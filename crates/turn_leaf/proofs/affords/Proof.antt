@@ -1,4 +1,4 @@
--- `affords` meets its contract. Assumes nothing.
+-- `affords` meets its contract.
 use borrow.Author.Needs.{needs}
 use Rattle.spec_turns.specs.Turn.{affords}
 use Rattle.turn_leaf.proofs.affords.Statement.{statement}

@@ -1,4 +1,4 @@
--- `begin` meets its contract. Assumes nothing.
+-- `begin` meets its contract.
 use mathlib.Core.Path.{_∙_}
 use Rattle.turn_leaf.proofs.LeafStarts.{begins-after, begins-left}
 use borrow.Author.Needs.{needs}

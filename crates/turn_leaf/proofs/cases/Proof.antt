@@ -1,4 +1,4 @@
--- `cases` meets its contract. Assumes nothing.
+-- `cases` meets its contract.
 use mathlib.Core.Path.{ap, sym, _∙_}
 use Rattle.file_records.specs.Kinds.{acaseOf}
 use Rattle.file_records.specs.declared.Operand.{Operand}

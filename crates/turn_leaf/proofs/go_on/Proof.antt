@@ -1,8 +1,8 @@
--- `go_on` meets its contract. The invariant: the leaf came to this offset by silent items; the measure: how far it can still go. Assumes nothing.
+-- `go_on` meets its contract. The invariant: the leaf came to this offset by silent items; the measure: how far it can still go.
 use native.Mathlib.Omega.{arith}
 use mathlib.Core.Path.{sym, _∙_}
 use borrow.Author.Needs.{needs}
-use Rattle.spec_policy.specs.Records.{rowPlace}
+use Rattle.spec_policy.specs.Records.{stepPlace}
 use Rattle.file_records.proofs.Rows.{step-meant}
 use Rattle.file_records.specs.Code.{codeFrom}
 use Rattle.turn_leaf.proofs.LeafSteps.{of-move}
@@ -27,15 +27,15 @@ loop-holds : tie.Need-loop-holds Inv-loop μ-loop
 loop-holds c = going-first _ _ _ _ (in-code _ _ _ _ (c .if1 .left))
 
 cast-view-step : tie.Need-cast-view-step Inv-loop μ-loop
-cast-view-step c = let st = c .before .before .before in omega (arith, code-length (st .args .policy .now) (rowPlace (st .args .policy .now) (st .args .first)) (st .args .count))
+cast-view-step c = let st = c .before .before .before in omega (arith, code-length (st .args .policy .now) (stepPlace (st .args .policy .now) (st .args .first)) (st .args .count))
 
 add-view-step : tie.Need-add-view-step Inv-loop μ-loop
-add-view-step c = let st = c .before .before .before in omega (arith, st .pre .0 .1, code-length (st .args .policy .now) (rowPlace (st .args .policy .now) (st .args .first)) (st .args .count))
+add-view-step c = let st = c .before .before .before in omega (arith, st .pre .0 .1, code-length (st .args .policy .now) (stepPlace (st .args .policy .now) (st .args .first)) (st .args .count))
 
 view-step-requires : tie.Need-view-step-requires Inv-loop μ-loop
 view-step-requires c κs =
     let st = c .before .before .before in
-    (st .pre .0 .0, omega (arith, st .pre .0 .1, code-length (st .args .policy .now) (rowPlace (st .args .policy .now) (st .args .first)) (st .args .count)))
+    (st .pre .0 .0, omega (arith, st .pre .0 .1, code-length (st .args .policy .now) (stepPlace (st .args .policy .now) (st .args .first)) (st .args .count)))
 
 loop-less : tie.Need-loop-less Inv-loop μ-loop
 loop-less c = let st = c .before .before .before .before .before .before .before .before in let lp = c .before .before .before .before .before in

@@ -1,4 +1,4 @@
--- `inserts` meets its contract. Assumes nothing.
+-- `inserts` meets its contract.
 use mathlib.Core.Path.{ap}
 use Rattle.file_records.specs.Kinds.{insOf}
 use Rattle.file_records.specs.declared.Operand.{Operand}

@@ -1,4 +1,4 @@
--- `leave` meets its contract. Assumes nothing.
+-- `leave` meets its contract.
 use native.Mathlib.Omega.{arith}
 use Rattle.turn_leaf.proofs.LeafCells.{holds-put, left-held}
 use borrow.Author.Needs.{needs}

@@ -1,4 +1,4 @@
--- `one_step` meets its contract: each kind of step by its law. Assumes nothing.
+-- `one_step` meets its contract: each kind of step by its law.
 use mathlib.Core.Path.{ap}
 use Rattle.file_records.specs.Kinds.{stepMeant}
 use Rattle.turn_leaf.proofs.LeafSteps.{of-step, takes-next, takes-ok, takes-sup, takes-end, takes-halt}

@@ -1,4 +1,4 @@
--- `pending` meets its contract. Assumes nothing.
+-- `pending` meets its contract.
 use Rattle.turn_leaf.proofs.LeafStarts.{pending-before, pending-none}
 use Rattle.turn_leaf.proofs.pending.Statement.{statement}
 use Rattle.turn_leaf.proofs.pending.Tie as tie

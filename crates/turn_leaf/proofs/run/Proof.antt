@@ -1,4 +1,4 @@
--- `run` meets its contract: each last move by its law. Assumes nothing.
+-- `run` meets its contract: each last move by its law.
 use native.Mathlib.Omega.{arith}
 use Rattle.turn_leaf.proofs.LeafCells.{holds-put, ran-stays, ran-stops, ran-inserts, ran-over}
 use borrow.Author.Needs.{needs}

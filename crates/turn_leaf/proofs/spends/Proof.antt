@@ -1,4 +1,4 @@
--- `spends` meets its contract. Assumes nothing.
+-- `spends` meets its contract.
 use native.Mathlib.Omega.{arith}
 use mathlib.Core.Path.{ap, sym, _∙_}
 use borrow.Author.Tests.{leb-true}

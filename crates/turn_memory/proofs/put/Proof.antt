@@ -1,4 +1,4 @@
--- `put` meets its contract. Assumes nothing.
+-- `put` meets its contract.
 use mathlib.Core.Path.{ap}
 use borrow.Author.Needs.{needs}
 use lib.ListN.{set}

@@ -14,7 +14,7 @@ use Rattle.spec_turns.specs.Turn.{Phase}
 use Rattle.file_records.specs.Kinds.{wayOf, kindOf}
 use Rattle.turn_paths.specs.Beneath.{size}
 use Rattle.turn_paths.specs.Choices.{goesOn}
-use Rattle.turn_memory.specs.Words.{Words, view}
+use Rattle.turn_memory.specs.Words.{Words, memoryOf}
 use Rattle.turn_memory.specs.Phases.{phaseOf}
 use Rattle.turn_sides.specs.Sides.{rightAt}
 use Rattle.turn_sides.proofs.StatusBytes.{phase-after}
@@ -75,14 +75,14 @@ use Rattle.turn_ends.proofs.over.Reads as over-reads
 use Rattle.turn_ends.proofs.par_end.Reads as par-end-reads
 use Rattle.turn_ends.proofs.reread.Reads as reread-reads
 use Rattle.turn_ends.proofs.seq_end.Reads as seq-end-reads
-use Rattle.turn_memory.proofs.say.Reads as say-reads
+use Rattle.turn_memory.proofs.let_out.Reads as let-out-reads
 use Rattle.turn_place.proofs.begin_leaf.Reads as begin-leaf-reads
 use Rattle.turn_place.proofs.lets_on.Reads as lets-on-reads
 use Rattle.turn_place.proofs.run_leaf.Reads as run-leaf-reads
 use Rattle.turn_place.proofs.taker.Reads as taker-reads
 use Rattle.turn_sides.proofs.goes_on.Reads as goes-on-reads
 use Rattle.turn_sides.proofs.is_asked.Reads as is-asked-reads
-use Rattle.turn_sides.proofs.is_running.Reads as is-running-reads
+use Rattle.turn_state.proofs.is_running.Reads as is-running-reads
 use Rattle.turn_sides.proofs.joined_at.Reads as joined-at-reads
 use Rattle.turn_sides.proofs.left_of.Reads as left-of-reads
 use Rattle.turn_sides.proofs.right_of.Reads as right-of-reads
@@ -224,7 +224,7 @@ abbrev right-first-calls : ℕ → right-first-lts.Claims
 right-first-calls t = (right-of-reads.Asked, right-of-reads.Learnt, turn-below t, turn.Post, joined-at-reads.Asked, joined-at-reads.Learnt, is-running-reads.Asked, is-running-reads.Learnt, seq-end-reads.Asked, seq-end-reads.Learnt, left-of-reads.Asked, left-of-reads.Learnt, caught-reads.Asked, caught-reads.Learnt)
 
 abbrev rise-calls : ℕ → rise-lts.Claims
-rise-calls t = (taker-reads.Asked, taker-reads.Learnt, say-reads.Asked, say-reads.Learnt, right-of-reads.Asked, right-of-reads.Learnt, asked-turn-below t, asked-turn.Post, single-reads.Asked, single-reads.Learnt, union-reads.Asked, union-reads.Learnt, lets-on-reads.Asked, lets-on-reads.Learnt)
+rise-calls t = (taker-reads.Asked, taker-reads.Learnt, let-out-reads.Asked, let-out-reads.Learnt, right-of-reads.Asked, right-of-reads.Learnt, asked-turn-below t, asked-turn.Post, single-reads.Asked, single-reads.Learnt, union-reads.Asked, union-reads.Learnt, lets-on-reads.Asked, lets-on-reads.Learnt)
 
 abbrev sequential-calls : ℕ → sequential-lts.Claims
 sequential-calls t = (right-first-below t, right-first.Post, left-of-reads.Asked, left-of-reads.Learnt, turn-below t, turn.Post, caught-reads.Asked, caught-reads.Learnt, after-left-below t, after-left.Post)
@@ -362,10 +362,10 @@ emit-returns-2 t c =
     all-the-way _ (c .before .before .before .before .rise .ensures .over (c .before .before .if1 .left)) (λ o. c .sink .ensures (e .args .mem .now) (e .args .b) o)
 
 abbrev leaf-Inv-loop : leaf-lts.InvT-loop
-leaf-Inv-loop policy mem₀ node phase mem = Reaches policy node mem₀ mem (leafRun (treeAt policy node) (phaseOf phase) (view mem₀)) (leafRun (treeAt policy node) (phaseOf phase) (view mem))
+leaf-Inv-loop policy mem₀ node phase mem = Reaches policy node mem₀ mem (leafRun (treeAt policy node) (phaseOf phase) (memoryOf mem₀)) (leafRun (treeAt policy node) (phaseOf phase) (memoryOf mem))
 
 abbrev leaf-μ-loop : leaf-lts.MeasureT-loop
-leaf-μ-loop policy mem₀ node phase mem = itemsLeft (leafRun (treeAt policy node) (phaseOf phase) (view mem))
+leaf-μ-loop policy mem₀ node phase mem = itemsLeft (leafRun (treeAt policy node) (phaseOf phase) (memoryOf mem))
 
 leaf-begin-leaf-requires : (t : ℕ) → leaf-lts.Need-begin-leaf-requires (leaf-calls t) (leaf-at t) leaf.Post leaf-Inv-loop leaf-μ-loop
 leaf-begin-leaf-requires t c κs = c .before .before .pre .1
@@ -559,15 +559,15 @@ rise-loop-holds t c = climbed-here _ (c .before .pre .1)
 rise-taker-requires : (t : ℕ) → rise-lts.Need-taker-requires (rise-calls t) (rise-at t) rise.Post rise-Inv-loop rise-μ-loop
 rise-taker-requires t c κs = stands-now (c .before .before .before .pre .1) (c .before .loop .inv)
 
-rise-say-requires : (t : ℕ) → rise-lts.Need-say-requires (rise-calls t) (rise-at t) rise.Post rise-Inv-loop rise-μ-loop
-rise-say-requires t c κs = c .before .before .before .before .loop .inv .moved .keeps .sized ∙ c .before .before .before .before .before .before .pre .1 .sized
+rise-let-out-requires : (t : ℕ) → rise-lts.Need-let-out-requires (rise-calls t) (rise-at t) rise.Post rise-Inv-loop rise-μ-loop
+rise-let-out-requires t c κs = c .before .before .before .before .loop .inv .moved .keeps .sized ∙ c .before .before .before .before .before .before .pre .1 .sized
 
 rise-returns : (t : ℕ) → rise-lts.Need-returns (rise-calls t) (rise-at t) rise.Post rise-Inv-loop rise-μ-loop
 rise-returns t c =
     let e = c .before .before .before .before .before .before .before in
     record {
       stops = λ l. absurd (omega (arith, l));
-      over = λ g. subst (λ (ws : Words). Owing (pathAt (e .args .policy .now) (e .args .mem .now) (e .args .node)) (e .args .b) (e .args .mem .now) ws (e .args .node) (c .before .before .before .before .before .loop .at) (c .before .before .before .before .before .loop .fed .bits)) (sym (c .say .ensures)) (lets-it-out (e .pre .1) (c .before .before .before .before .before .loop .inv) (found-none _ _ _ _ _ (c .before .before .if1 .taken) (c .before .before .before .taker .ensures .1)) (omega arith));
+      over = λ g. subst (λ (ws : Words). Owing (pathAt (e .args .policy .now) (e .args .mem .now) (e .args .node)) (e .args .b) (e .args .mem .now) ws (e .args .node) (c .before .before .before .before .before .loop .at) (c .before .before .before .before .before .loop .fed .bits)) (sym (c .let-out .ensures)) (lets-it-out (e .pre .1) (c .before .before .before .before .before .loop .inv) (found-none _ _ _ _ _ (c .before .before .if1 .taken) (c .before .before .before .taker .ensures .1)) (omega arith));
     }
 
 rise-right-of-requires : (t : ℕ) → rise-lts.Need-right-of-requires (rise-calls t) (rise-at t) rise.Post rise-Inv-loop rise-μ-loop
@@ -766,7 +766,7 @@ pub +after-left+asked-turn+emit+leaf+parallel+right-first+rise+sequential+settle
     (λ t. leaf-lts.spec (leaf-calls t) (leaf-at t) leaf.Post leaf-Inv-loop leaf-μ-loop (leaf-begin-leaf-requires t) (leaf-loop-holds t) (leaf-run-leaf-requires t) (λ c. search needs) (leaf-emit-requires t) (leaf-returns t) (leaf-loop-less t) (leaf-loop-again t) (λ c. search needs) (λ c. search needs) (leaf-returns-2 t))
     (λ t. parallel-lts.spec (parallel-calls t) (parallel-at t) parallel.Post (parallel-left-of-requires t) (parallel-turn-requires t) (parallel-returns t) (parallel-right-of-requires t) (parallel-turn-requires-2 t) (parallel-returns-2 t) (parallel-par-end-requires t) (parallel-returns-3 t))
     (λ t. right-first-lts.spec (right-first-calls t) (right-first-at t) right-first.Post (right-first-right-of-requires t) (right-first-turn-requires t) (right-first-returns t) (right-first-joined-at-requires t) (λ c κs. search needs) (right-first-seq-end-requires t) (right-first-returns-2 t) (right-first-left-of-requires t) (right-first-turn-requires-2 t) (right-first-caught-requires t) (right-first-returns-3 t) (right-first-seq-end-requires-2 t) (right-first-returns-4 t))
-    (λ t. rise-lts.spec (rise-calls t) (rise-at t) rise.Post rise-Inv-loop rise-μ-loop (rise-loop-holds t) (rise-taker-requires t) (rise-say-requires t) (rise-returns t) (rise-right-of-requires t) (rise-asked-turn-requires t) (rise-returns-2 t) (rise-cast-single t) (λ c κs. search needs) (λ c κs. search needs) (rise-lets-on-requires t) (rise-returns-3 t) (rise-loop-less t) (rise-loop-again t))
+    (λ t. rise-lts.spec (rise-calls t) (rise-at t) rise.Post rise-Inv-loop rise-μ-loop (rise-loop-holds t) (rise-taker-requires t) (rise-let-out-requires t) (rise-returns t) (rise-right-of-requires t) (rise-asked-turn-requires t) (rise-returns-2 t) (rise-cast-single t) (λ c κs. search needs) (λ c κs. search needs) (rise-lets-on-requires t) (rise-returns-3 t) (rise-loop-less t) (rise-loop-again t))
     (λ t. sequential-lts.spec (sequential-calls t) (sequential-at t) sequential.Post (sequential-right-first-requires t) (sequential-returns t) (sequential-left-of-requires t) (sequential-turn-requires t) (sequential-caught-requires t) (sequential-returns-2 t) (sequential-after-left-requires t) (sequential-returns-3 t))
     (λ t. settle-insert-lts.spec (settle-insert-calls t) (settle-insert-at t) settle-insert.Post (settle-insert-right-of-requires t) (settle-insert-turn-requires t) (settle-insert-returns t) (settle-insert-reread-requires t) (settle-insert-returns-2 t))
     (λ t. sink-lts.spec (sink-calls t) (sink-at t) sink.Post sink-Inv-loop sink-μ-loop (sink-loop-holds t) (sink-cast-has t) (λ c κs. search needs) (sink-settle-insert-requires t) (sink-returns t) (sink-add-at t) (sink-loop-less t) (sink-loop-again t) (sink-returns-2 t))

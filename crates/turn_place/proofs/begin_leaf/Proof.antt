@@ -1,4 +1,4 @@
--- `begin_leaf` meets its contract. Assumes nothing.
+-- `begin_leaf` meets its contract.
 use borrow.Author.Needs.{needs}
 use Rattle.turn_place.proofs.LeafPlaces.{low, leaf-fits, leaf-begun}
 use Rattle.turn_place.proofs.begin_leaf.Statement.{statement}

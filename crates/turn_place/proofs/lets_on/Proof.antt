@@ -1,4 +1,4 @@
--- `lets_on` meets its contract. Assumes nothing.
+-- `lets_on` meets its contract.
 use Prim.Native.Nat.{ℕ}
 use native.Mathlib.Omega.{arith}
 use mathlib.Core.Path.{ap, ap₂, _∙_}
@@ -7,7 +7,7 @@ use borrow.Author.Needs.{needs}
 use Rattle.spec_policy.specs.Tree.{Join}
 use Rattle.spec_turns.specs.Status.{Status}
 use Rattle.turn_paths.specs.Choices.{emits}
-use Rattle.turn_memory.specs.Words.{view}
+use Rattle.turn_memory.specs.Words.{memoryOf}
 use Rattle.turn_sides.proofs.Nodes.{sides, placed-here}
 use Rattle.turn_memory.proofs.CellLaws.{status-read}
 use Rattle.turn_place.proofs.lets_on.Statement.{statement}
@@ -30,7 +30,7 @@ returns c =
     let s = sides (start .pre) in
     c .emits .ensures
     ∙ ap₂ (λ (j : Join) (s : Status). emits j s (eqb (start .args .x) 1)) (c .before .join-of .ensures)
-    (status-read m _ (omega (arith, read .before .right-of .ensures, s .right-below, s .few)) (read .status-at .ensures) ∙ ap (λ (i : ℕ). view m i .status) (read .before .right-of .ensures))
+    (status-read m _ (omega (arith, read .before .right-of .ensures, s .right-below, s .few)) (read .status-at .ensures) ∙ ap (λ (i : ℕ). memoryOf m i .status) (read .before .right-of .ensures))
 
 pub lets-on-spec : {M : Type 1} → statement M
 lets-on-spec = tie.close (tie.spec right-of-requires status-at-requires join-of-requires (λ c κs. search needs) returns)

@@ -1,4 +1,4 @@
--- `run_leaf` meets its contract. Assumes nothing.
+-- `run_leaf` meets its contract.
 use borrow.Author.Needs.{needs}
 use Rattle.turn_place.proofs.LeafPlaces.{low, leaf-passing, leaf-fits, leaf-went}
 use Rattle.turn_place.proofs.run_leaf.Statement.{statement}

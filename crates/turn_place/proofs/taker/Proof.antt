@@ -1,4 +1,4 @@
--- `taker` meets its contract. Where the loop comes to, the nodes passed were not asked; the numbers fall. Assumes nothing.
+-- `taker` meets its contract. Where the loop comes to, the nodes passed were not asked; the numbers fall.
 use Prim.Native.Nat.{ℕ, _+_, _≤_}
 use native.Mathlib.Omega.{arith}
 use mathlib.Core.Path.{_≡_, sym, ap, _∙_, subst}
@@ -10,7 +10,7 @@ use Rattle.actions.specs.Sets.{Action, has}
 use Rattle.spec_policy.specs.Bytes.{Bytes}
 use Rattle.turn_paths.specs.Rising.{takes, Skips, here}
 use Rattle.turn_paths.specs.Choices.{askedIn}
-use Rattle.turn_memory.specs.Words.{Words, setPlace, view}
+use Rattle.turn_memory.specs.Words.{Words, setPlace, memoryOf}
 use Rattle.turn_memory.specs.Phases.{phaseOf}
 use Rattle.turn_sides.specs.Sides.{rightAt, Sided}
 use Rattle.turn_sides.proofs.Nodes.{sides, placed-here}
@@ -23,7 +23,7 @@ use Rattle.turn_place.proofs.taker.Statement.{statement}
 use Rattle.turn_place.proofs.taker.Tie as tie
 
 abbrev Inv-loop : tie.InvT-loop
-Inv-loop policy mem node b at₀ at = Stands policy mem at × ((at ≤ node) × Skips b (view mem) (pathAt policy mem node) (pathAt policy mem at))
+Inv-loop policy mem node b at₀ at = Stands policy mem at × ((at ≤ node) × Skips b (memoryOf mem) (pathAt policy mem node) (pathAt policy mem at))
 
 abbrev μ-loop : tie.MeasureT-loop
 μ-loop policy mem node b at₀ at = at
@@ -44,7 +44,7 @@ feeder-of-requires : tie.Need-feeder-of-requires Inv-loop μ-loop
 feeder-of-requires c κs = low (c .before .before .before .loop .inv .0)
 
 -- the node that was read: on the way up, with two sides
-module _ {policy : Bytes} {ws : Words} {i p : ℕ} {b : Action} (inv : Stands policy ws p × ((p ≤ i) × Skips b (view ws) (pathAt policy ws i) (pathAt policy ws p)))
+module _ {policy : Bytes} {ws : Words} {i p : ℕ} {b : Action} (inv : Stands policy ws p × ((p ≤ i) × Skips b (memoryOf ws) (pathAt policy ws i) (pathAt policy ws p)))
     (e : has (aboveAt ws p) b ≡ true) {r : ℕ} (q : r ≡ feederAt ws p) where
   up : Up policy ws p
   up = next-up (inv .0) (inv .1 .0) (inv .1 .1) e
@@ -52,7 +52,7 @@ module _ {policy : Bytes} {ws : Words} {i p : ℕ} {b : Action} (inv : Stands po
   sided : Sided policy r
   sided = subst (Sided policy) (sym q) (sided-of (up .stands) (up .pair))
 
-  takes-it : {x : ℕ} {v : Bool} → x ≡ rightAt policy r → v ≡ askedIn (getD ws (setPlace + x) 0) (phaseOf b) (view ws x) → takes (asFeeder policy r) b (view ws) ≡ v
+  takes-it : {x : ℕ} {v : Bool} → x ≡ rightAt policy r → v ≡ askedIn (getD ws (setPlace + x) 0) (phaseOf b) (memoryOf ws x) → takes (asFeeder policy r) b (memoryOf ws) ≡ v
   takes-it {x} {v} f g = asked-takes r b x (inv .0 .tabled) (sides sided .right-below) (has-low (aboveAt ws p) b e) f g
 
 right-of-requires : tie.Need-right-of-requires Inv-loop μ-loop

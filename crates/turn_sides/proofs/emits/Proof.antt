@@ -1,4 +1,4 @@
--- `emits` meets its contract. Assumes nothing.
+-- `emits` meets its contract.
 use mathlib.Core.Path.{sym, ap, _∙_}
 use mathlib.Core.Bool.{true, false}
 use Rattle.file_records.specs.Kinds as kinds

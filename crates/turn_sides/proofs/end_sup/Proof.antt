@@ -1,4 +1,4 @@
--- `end_sup` meets its contract. Assumes nothing.
+-- `end_sup` meets its contract.
 use mathlib.Core.Path.{sym}
 use Rattle.turn_sides.proofs.StatusBytes.{sup-before, later}
 use Rattle.turn_sides.proofs.end_sup.Statement.{statement}

@@ -1,4 +1,4 @@
--- `goes_on` meets its contract. Assumes nothing.
+-- `goes_on` meets its contract.
 use mathlib.Core.Path.{sym, _∙_}
 use Rattle.turn_sides.proofs.StatusBytes.{goes-before, goes-closing, and-no, and-yes}
 use Rattle.turn_sides.proofs.goes_on.Statement.{statement}

@@ -1,4 +1,4 @@
--- `is_asked` meets its contract. Assumes nothing.
+-- `is_asked` meets its contract.
 use mathlib.Core.Path.{sym, ap, _∙_}
 use borrow.Author.Needs.{needs}
 use borrow.Author.Tests.{not-true, not-false}

@@ -1,4 +1,4 @@
--- `join` meets its contract. Assumes nothing.
+-- `join` meets its contract.
 use mathlib.Core.Path.{sym, ap, _∙_}
 use Rattle.file_records.specs.Kinds as kinds
 use Rattle.file_records.specs.declared.Join.{Join}

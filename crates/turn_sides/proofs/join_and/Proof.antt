@@ -1,4 +1,4 @@
--- `join_and` meets its contract. Assumes nothing.
+-- `join_and` meets its contract.
 use mathlib.Core.Path.{sym, _∙_}
 use Rattle.spec_turns.specs.Status.{statusOf}
 use Rattle.turn_sides.proofs.StatusBytes.{and-left-halted, and-right-halted, and-both-ended, and-runs-left, and-runs-right}

@@ -1,4 +1,4 @@
--- `join_of` meets its contract. Assumes nothing.
+-- `join_of` meets its contract.
 use mathlib.Core.Path.{sym, ap, _∙_}
 use Prim.Native.Nat.{ℕ}
 use Rattle.turn_sides.specs.Sides.{kindAt, joinAt, joinOfKind}

@@ -1,4 +1,4 @@
--- `join_or` meets its contract. Assumes nothing.
+-- `join_or` meets its contract.
 use mathlib.Core.Path.{sym, _∙_}
 use Rattle.spec_turns.specs.Status.{statusOf}
 use Rattle.turn_sides.proofs.StatusBytes.{or-left-ended, or-right-ended, or-both-halted, or-runs-left, or-runs-right}

@@ -1,4 +1,4 @@
--- `joined_at` meets its contract. Assumes nothing.
+-- `joined_at` meets its contract.
 use native.Mathlib.Omega.{arith}
 use Prim.Native.Nat.{ℕ}
 use mathlib.Core.Path.{ap, _∙_}
@@ -6,7 +6,7 @@ use borrow.Author.Needs.{needs}
 use Rattle.turn_sides.proofs.StatusBytes.{joins}
 use Rattle.turn_memory.proofs.CellLaws.{status-read}
 use Rattle.turn_sides.proofs.Nodes.{sides, placed-here}
-use Rattle.turn_memory.specs.Words.{view}
+use Rattle.turn_memory.specs.Words.{memoryOf}
 use Rattle.turn_sides.proofs.joined_at.Statement.{statement}
 use Rattle.turn_sides.proofs.joined_at.Tie as tie
 
@@ -32,8 +32,8 @@ returns c =
     let st = at-left .before .before .before in
     let m = st .args .mem .now in
     let s = sides (st .pre) in
-    joins (c .join .ensures) (status-read m _ (omega (arith, at-left .before .left-of .ensures, s .left-below, s .few)) (at-left .status-at .ensures) ∙ ap (λ (i : ℕ). view m i .status) (at-left .before .left-of .ensures))
-    (status-read m _ (omega (arith, at-right .before .right-of .ensures, s .right-below, s .few)) (at-right .status-at2 .ensures) ∙ ap (λ (i : ℕ). view m i .status) (at-right .before .right-of .ensures)) (c .before .join-of .ensures)
+    joins (c .join .ensures) (status-read m _ (omega (arith, at-left .before .left-of .ensures, s .left-below, s .few)) (at-left .status-at .ensures) ∙ ap (λ (i : ℕ). memoryOf m i .status) (at-left .before .left-of .ensures))
+    (status-read m _ (omega (arith, at-right .before .right-of .ensures, s .right-below, s .few)) (at-right .status-at2 .ensures) ∙ ap (λ (i : ℕ). memoryOf m i .status) (at-right .before .right-of .ensures)) (c .before .join-of .ensures)
 
 pub joined-at-spec : {M : Type 1} → statement M
 joined-at-spec =

@@ -1,4 +1,4 @@
--- `left_of` meets its contract. Assumes nothing.
+-- `left_of` meets its contract.
 use Rattle.turn_sides.specs.Sides.{leftAt}
 use borrow.Author.Needs.{needs}
 use Rattle.turn_sides.proofs.left_of.Statement.{statement}

@@ -1,4 +1,4 @@
--- `mark_of` meets its contract. Assumes nothing.
+-- `mark_of` meets its contract.
 use native.Mathlib.Omega.{arith}
 use mathlib.Core.Path.{sym}
 use mathlib.Core.Bool.{true}

@@ -1,4 +1,4 @@
--- `right_of` meets its contract. Assumes nothing.
+-- `right_of` meets its contract.
 use Rattle.turn_sides.specs.Sides.{rightAt}
 use borrow.Author.Needs.{needs}
 use Rattle.turn_sides.proofs.right_of.Statement.{statement}

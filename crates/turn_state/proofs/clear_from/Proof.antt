@@ -1,4 +1,4 @@
--- `clear_from` meets its contract. The invariant: the bytes from the node's record on and below the loop's place are zeros. Assumes nothing.
+-- `clear_from` meets its contract. The invariant: the bytes from the node's record on and below the loop's place are zeros.
 use Prim.Native.Nat.{_*_, _-_}
 use native.Mathlib.Omega.{arith}
 use lib.ListN.{length}

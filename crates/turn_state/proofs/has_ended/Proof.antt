@@ -1,4 +1,4 @@
--- `has_ended` meets its contract. Assumes nothing.
+-- `has_ended` meets its contract.
 use Rattle.spec_turns.proofs.StatusLaws.{ended-between}
 use Rattle.turn_state.proofs.has_ended.Statement.{statement}
 use Rattle.turn_state.proofs.has_ended.Tie as tie

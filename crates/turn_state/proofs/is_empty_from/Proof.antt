@@ -1,4 +1,4 @@
--- `is_empty_from` meets its contract. The loop's invariant: the whole test equals that of what is joined and of the bytes from i on. Assumes nothing.
+-- `is_empty_from` meets its contract. The loop's invariant: the whole test equals that of what is joined and of the bytes from i on.
 use Prim.Native.Nat.{_*_, _-_}
 use Rattle.spec_turns.specs.Saved.{cellSize, stateSize}
 use native.Mathlib.Omega.{arith}

@@ -1,4 +1,4 @@
--- `is_halted` meets its contract. Assumes nothing.
+-- `is_halted` meets its contract.
 use Rattle.spec_turns.proofs.StatusLaws.{halted-five}
 use Rattle.turn_state.proofs.is_halted.Statement.{statement}
 use Rattle.turn_state.proofs.is_halted.Tie as tie

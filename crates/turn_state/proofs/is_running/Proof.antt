@@ -1,4 +1,4 @@
--- `is_running` meets its contract. Assumes nothing.
+-- `is_running` meets its contract.
 use Rattle.spec_turns.proofs.StatusLaws.{running-one}
 use Rattle.turn_state.proofs.is_running.Statement.{statement}
 use Rattle.turn_state.proofs.is_running.Tie as tie

@@ -1,4 +1,4 @@
--- `save_word` meets its contract: eight bytes, one after another. Assumes nothing.
+-- `save_word` meets its contract: eight bytes, one after another.
 use native.Mathlib.Omega.{arith}
 use mathlib.Core.Path.{refl}
 use lib.ListN.{length-set}

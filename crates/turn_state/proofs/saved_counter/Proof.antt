@@ -1,4 +1,4 @@
--- `saved_counter` meets its contract. Assumes nothing.
+-- `saved_counter` meets its contract.
 use borrow.Author.Needs.{needs}
 use Rattle.spec_turns.specs.Saved.{cellPlace, counterAt}
 use Rattle.turn_state.proofs.saved_counter.Statement.{statement}

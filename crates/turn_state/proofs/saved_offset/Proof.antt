@@ -1,4 +1,4 @@
--- `saved_offset` meets its contract. Assumes nothing.
+-- `saved_offset` meets its contract.
 use borrow.Author.Needs.{needs}
 use Rattle.spec_turns.specs.Saved.{cellPlace, offsetAt}
 use Rattle.turn_state.proofs.saved_offset.Statement.{statement}

@@ -1,4 +1,4 @@
--- `saved_status` meets its contract. Assumes nothing.
+-- `saved_status` meets its contract.
 use borrow.Author.Needs.{needs}
 use Rattle.spec_turns.specs.Saved.{cellPlace, statusAt}
 use Rattle.turn_state.proofs.saved_status.Statement.{statement}

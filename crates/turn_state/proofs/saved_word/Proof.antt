@@ -1,4 +1,4 @@
--- `saved_word` meets its contract. Assumes nothing.
+-- `saved_word` meets its contract.
 use borrow.Author.Needs.{needs}
 use Rattle.spec_turns.specs.Saved.{cellPlace}
 use Rattle.turn_state.proofs.saved_word.Statement.{statement}

@@ -1,4 +1,4 @@
--- `saved_zeros` meets its contract. Assumes nothing.
+-- `saved_zeros` meets its contract.
 use borrow.Author.Needs.{needs}
 use Rattle.spec_turns.specs.Saved.{cellPlace, zerosAt}
 use Rattle.turn_state.proofs.saved_zeros.Statement.{statement}

@@ -1,4 +1,4 @@
--- `enter_sets` meets its contract. The invariant: the nodes from i on are entered; the measure is i. Assumes nothing.
+-- `enter_sets` meets its contract. The invariant: the nodes from i on are entered; the measure is i.
 use native.Mathlib.Omega.{arith}
 use mathlib.Core.Path.{refl}
 use Rattle.actions.specs.Sets.{EMPTY}
@@ -26,8 +26,8 @@ regulated-requires c κs =
     let g = c .before .before .loop .inv in
     ((st .pre .0 .0, omega (arith, g .below, g .nodes, c .before .loop-test .taken)), sets-later g (c .before .loop-test .taken))
 
-owned-requires : tie.Need-owned-requires Inv-loop μ-loop
-owned-requires c κs =
+steps-owned-requires : tie.Need-steps-owned-requires Inv-loop μ-loop
+steps-owned-requires c κs =
     let st = c .before .before .before .before .before in
     let g = c .before .before .before .loop .inv in
     node-in (st .pre .0 .0) _ (omega (arith, g .below, g .nodes, c .before .before .loop-test .taken))
@@ -35,7 +35,7 @@ owned-requires c κs =
 sub-first : tie.Need-sub-first Inv-loop μ-loop
 sub-first c =
     steps-some (c .before .before .before .before .loop .inv) (c .before .before .before .loop-test .taken) _ _ refl
-    (c .owned .ensures)
+    (c .steps-owned .ensures)
 
 add-mem : tie.Need-add-mem Inv-loop μ-loop
 add-mem c = let g = c .before .before .before .before .loop .inv in omega (arith, g .below, g .few)
@@ -59,7 +59,7 @@ unfolding EMPTY
 loop-again c =
     let g = c .before .before .before .before .before .before .loop .inv in
     filled-more g (c .before .before .before .before .before .loop-test .taken) _ _ _ _ (c .before .before .before .regulated .ensures)
-    refl (c .before .before .owned .ensures) refl (c .link .ensures)
+    refl (c .before .before .steps-owned .ensures) refl (c .link .ensures)
 
 returns : tie.Need-returns Inv-loop μ-loop
 returns c = filled-all (c .before .loop .inv) (c .loop-test .left)
@@ -73,7 +73,7 @@ enter-sets-spec =
     loop-holds
     sub-i
     regulated-requires
-    owned-requires
+    steps-owned-requires
     (λ c. search needs)
     sub-first
     add-mem

@@ -1,4 +1,4 @@
--- `link` meets its contract. Assumes nothing.
+-- `link` meets its contract.
 use borrow.Author.Needs.{needs}
 use Rattle.turn_tables.specs.Entries.{wayUp}
 use Rattle.turn_tables.proofs.link.Statement.{statement}

@@ -1,4 +1,4 @@
--- `link_node` meets its contract. Assumes nothing.
+-- `link_node` meets its contract.
 use native.Mathlib.Omega.{arith}
 use mathlib.Core.Path.{refl}
 use borrow.Author.Needs.{needs}

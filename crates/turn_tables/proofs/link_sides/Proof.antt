@@ -1,4 +1,4 @@
--- `link_sides` meets its contract. Assumes nothing.
+-- `link_sides` meets its contract.
 use Prim.Native.Nat.{ℕ}
 use mathlib.Core.Path.{_∙_, ap}
 use borrow.Author.Needs.{needs}

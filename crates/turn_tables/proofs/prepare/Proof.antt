@@ -1,4 +1,4 @@
--- `prepare` meets its contract. The invariant: the sides of the nodes before i are entered; the measure is what is left of the nodes. Assumes nothing.
+-- `prepare` meets its contract. The invariant: the sides of the nodes before i are entered; the measure is what is left of the nodes.
 use Prim.Native.Nat.{_-_}
 use native.Mathlib.Omega.{arith}
 use mathlib.Core.Path.{_∙_}

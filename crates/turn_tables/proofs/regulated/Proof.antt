@@ -1,4 +1,4 @@
--- `regulated` meets its contract: one step down the tree, by the kind. Assumes nothing.
+-- `regulated` meets its contract: one step down the tree, by the kind.
 use native.Mathlib.Omega.{arith}
 use mathlib.Core.Path.{refl, ap, _∙_}
 use Prim.Native.Nat.{ℕ}

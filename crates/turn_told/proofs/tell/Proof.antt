@@ -1,4 +1,4 @@
--- `tell` meets its contract. The invariant: the first k inserts are still in the words, and the others stand in the room. Assumes nothing.
+-- `tell` meets its contract. The invariant: the first k inserts are still in the words, and the others stand in the room.
 use native.Mathlib.Omega.{arith}
 use mathlib.Core.Path.{refl}
 use lib.ListN.{length-set}

@@ -1,4 +1,4 @@
--- `ActionSet::common` meets its contract. Assumes nothing.
+-- `ActionSet::common` meets its contract.
 use mathlib.Core.Path.{refl}
 use Rattle.actions.specs.Sets.{common}
 use Rattle.actions.proofs.ActionSet.common.Statement.{statement}

@@ -1,4 +1,4 @@
--- `ActionSet::difference` meets its contract. Assumes nothing.
+-- `ActionSet::difference` meets its contract.
 use mathlib.Core.Path.{refl}
 use Rattle.actions.specs.Sets.{difference}
 use Rattle.actions.proofs.ActionSet.difference.Statement.{statement}

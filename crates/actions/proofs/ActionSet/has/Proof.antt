@@ -1,4 +1,4 @@
--- `ActionSet::has` meets its contract. Assumes nothing.
+-- `ActionSet::has` meets its contract.
 use native.Mathlib.Omega.{arith}
 use mathlib.Core.Path.{_∙_, sym}
 use borrow.Author.Needs.{needs}

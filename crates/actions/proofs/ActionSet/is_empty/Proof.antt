@@ -1,4 +1,4 @@
--- `ActionSet::is_empty` meets its contract. Assumes nothing.
+-- `ActionSet::is_empty` meets its contract.
 use mathlib.Core.Path.{refl}
 use Rattle.actions.specs.Sets.{isEmpty}
 use Rattle.actions.proofs.ActionSet.is_empty.Statement.{statement}

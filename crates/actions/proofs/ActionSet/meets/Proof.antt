@@ -1,4 +1,4 @@
--- `ActionSet::meets` meets its contract. Assumes nothing.
+-- `ActionSet::meets` meets its contract.
 use mathlib.Core.Path.{refl}
 use Rattle.actions.specs.Sets.{meets}
 use Rattle.actions.proofs.ActionSet.meets.Statement.{statement}

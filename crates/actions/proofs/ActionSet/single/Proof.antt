@@ -1,4 +1,4 @@
--- `ActionSet::single` meets its contract. Assumes nothing.
+-- `ActionSet::single` meets its contract.
 use Prim.Native.Nat.{ℕ, _*_, _%_, _^_, _≤_}
 use native.Mathlib.Omega.{arith}
 use native.Mathlib.Nat.{one-mul}

@@ -1,4 +1,4 @@
--- `ActionSet::union` meets its contract. Assumes nothing.
+-- `ActionSet::union` meets its contract.
 use mathlib.Core.Path.{refl}
 use Rattle.actions.specs.Sets.{union}
 use Rattle.actions.proofs.ActionSet.union.Statement.{statement}

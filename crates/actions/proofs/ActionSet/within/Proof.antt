@@ -1,4 +1,4 @@
--- `ActionSet::within` meets its contract. Assumes nothing.
+-- `ActionSet::within` meets its contract.
 use mathlib.Core.Path.{refl}
 use Rattle.actions.specs.Sets.{within}
 use Rattle.actions.proofs.ActionSet.within.Statement.{statement}

@@ -1,4 +1,4 @@
--- `ask` meets its contract. Assumes nothing.
+-- `ask` meets its contract.
 use mathlib.Core.Path.{sym, ap}
 use Rattle.spec_turns.specs.Entries.{opens, offers, closes}
 use Rattle.call_answer.specs.Requests.{asked}

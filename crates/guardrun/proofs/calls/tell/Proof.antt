@@ -1,4 +1,4 @@
--- `tell` meets its contract: an answer's events are few and in the buffer. Assumes nothing.
+-- `tell` meets its contract: an answer's events are few and in the buffer.
 use borrow.Author.Needs.{needs}
 use Rattle.call_answer.proofs.Heard.{few}
 use Rattle.guardrun.proofs.SpokenLaws.{spoke-answered, spoke-refused}

@@ -1,4 +1,4 @@
--- `file` meets its contract: the file, or a refusal. Assumes nothing.
+-- `file` meets its contract: the file, or a refusal.
 use borrow.Author.Needs.{needs}
 use Rattle.guardwrite.proofs.ToldLaws.{instead, file-wrote, file-refused}
 use Rattle.guardwrite.proofs.told.file.Statement.{statement}

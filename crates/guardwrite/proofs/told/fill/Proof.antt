@@ -1,4 +1,4 @@
--- `fill` meets its contract: the file of the records or a refusal, a bad line, or more records than a file may have. Assumes nothing.
+-- `fill` meets its contract: the file of the records or a refusal, a bad line, or more records than a file may have.
 use Prim.Native.Nat.{_*_, _≤_}
 use native.Mathlib.Omega.{arith}
 use mathlib.Core.Path.{sym, ap, _∙_}

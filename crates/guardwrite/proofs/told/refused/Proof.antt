@@ -1,4 +1,4 @@
--- `refused` meets its contract: there is room for a refusal. Assumes nothing.
+-- `refused` meets its contract: there is room for a refusal.
 use native.Mathlib.Omega.{arith}
 use borrow.Author.Needs.{needs}
 use Rattle.text_append.proofs.AddedLaws.{tells, refusal-short}

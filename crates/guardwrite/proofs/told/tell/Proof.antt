@@ -1,4 +1,4 @@
--- `tell` meets its contract: a text too long, or one that is read. Assumes nothing.
+-- `tell` meets its contract: a text too long, or one that is read.
 use native.Mathlib.Omega.{arith}
 use borrow.Author.Needs.{needs}
 use Rattle.guardwrite.proofs.ToldLaws.{instead, made-long, made-short}

@@ -1,4 +1,4 @@
--- `too_long` meets its contract: the number of the line in which the first byte too many lies. Assumes nothing.
+-- `too_long` meets its contract: the number of the line in which the first byte too many lies.
 use native.Mathlib.Omega.{arith}
 use mathlib.Core.Path.{sym}
 use lib.Seq.{length-take-le}

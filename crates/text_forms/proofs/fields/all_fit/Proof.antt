@@ -1,4 +1,4 @@
--- `all_fit` meets its contract. Assumes nothing.
+-- `all_fit` meets its contract.
 use mathlib.Core.Path.{ap₂, _∙_}
 use mathlib.Core.Bool.{Bool, _&&_}
 use Rattle.text_forms.proofs.FieldLaws.{fit-three}

@@ -1,4 +1,4 @@
--- `counted` meets its contract. Assumes nothing.
+-- `counted` meets its contract.
 use mathlib.Core.Path.{sym, ap, _∙_}
 use native.Mathlib.Omega.{arith}
 use Rattle.spec_text.specs.Forms.{size}

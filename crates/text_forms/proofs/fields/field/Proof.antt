@@ -1,4 +1,4 @@
--- `field` meets its contract. Assumes nothing.
+-- `field` meets its contract.
 use mathlib.Core.Path.{sym, ap, _∙_}
 use native.Mathlib.Omega.{arith}
 use lib.ListN.{getD}

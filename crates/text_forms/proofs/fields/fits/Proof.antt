@@ -1,4 +1,4 @@
--- `fits` meets its contract. Assumes nothing.
+-- `fits` meets its contract.
 use mathlib.Core.Path.{sym, ap, _∙_}
 use Prim.Native.Nat.{ℕ}
 use lib.Dec.{leb}

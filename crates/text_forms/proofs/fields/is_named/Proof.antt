@@ -1,4 +1,4 @@
--- `is_named` meets its contract. Assumes nothing.
+-- `is_named` meets its contract.
 use mathlib.Core.Path.{sym, ap, _∙_}
 use Rattle.spec_text.specs.Forms.{number, actions, place}
 use Rattle.text_forms.specs.declared.forms.Slot.{Slot}

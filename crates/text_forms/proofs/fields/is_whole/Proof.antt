@@ -1,4 +1,4 @@
--- `is_whole` meets its contract. Assumes nothing.
+-- `is_whole` meets its contract.
 use mathlib.Core.Path.{sym, ap, _∙_}
 use Rattle.spec_text.specs.Forms.{fieldsIn}
 use Rattle.text_forms.specs.declared.forms.Sort.{Sort}

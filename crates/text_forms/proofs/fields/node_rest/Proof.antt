@@ -1,4 +1,4 @@
--- `node_rest` meets its contract. Assumes nothing.
+-- `node_rest` meets its contract.
 use mathlib.Core.Path.{sym, ap, _∙_}
 use Prim.Native.Nat.{ℕ}
 use native.Mathlib.Omega.{arith}

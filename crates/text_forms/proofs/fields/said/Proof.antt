@@ -1,4 +1,4 @@
--- `said` meets its contract. Assumes nothing.
+-- `said` meets its contract.
 use mathlib.Core.Path.{ap, ap₂, _∙_}
 use mathlib.Core.Bool.{Bool, _||_}
 use Prim.Native.Nat.{ℕ}

@@ -1,4 +1,4 @@
--- `says` meets its contract. Assumes nothing.
+-- `says` meets its contract.
 use mathlib.Core.Path.{ap, ap₂, _∙_}
 use mathlib.Core.Bool.{Bool, _&&_}
 use Prim.Native.Nat.{ℕ}

@@ -1,9 +1,9 @@
--- `step_rest` meets its contract. Assumes nothing.
+-- `step_rest` meets its contract.
 use mathlib.Core.Path.{sym, ap, _∙_}
 use Prim.Native.Nat.{ℕ}
 use native.Mathlib.Omega.{arith}
 use lib.ListN.{getD, List·getD-eq-default}
-use Rattle.spec_policy.specs.Records.{rowAt}
+use Rattle.spec_policy.specs.Records.{stepRecordAt}
 use Rattle.spec_text.specs.Forms.{step, size, fieldsIn}
 use Rattle.text_forms.proofs.fields.step_rest.Statement.{statement}
 use Rattle.text_forms.proofs.fields.step_rest.Tie as tie
@@ -13,7 +13,7 @@ unfolding size
 word64-requires c κs = omega (arith, c .before .before .pre .0)
 
 returns : tie.Need-returns
-unfolding fieldsIn rowAt
+unfolding fieldsIn stepRecordAt
 returns c = c .word64 .ensures ∙ ap (λ (i : ℕ). getD (fieldsIn step (c .before .before .before .args .bytes .now)) i 0) (sym (c .before .match .keys1))
 
 returns-2 : tie.Need-returns-2

@@ -1,4 +1,4 @@
--- `form_of` meets its contract. Assumes nothing.
+-- `form_of` meets its contract.
 use mathlib.Core.Path.{sym, subst}
 use borrow.Author.Needs.{needs}
 use Rattle.text_forms.specs.Meant.{sortOf, Means}

@@ -1,4 +1,4 @@
--- `node_form` meets its contract: arm by arm, the table's form. Assumes nothing.
+-- `node_form` meets its contract: arm by arm, the table's form.
 use mathlib.Core.Path.{refl, sym, ap}
 use native.Mathlib.Omega.{arith}
 use borrow.Author.Needs.{needs}

@@ -1,4 +1,4 @@
--- `check_bytes` meets its contract: what `spell` gives is the answer in bytes, in each of its two cases. Assumes nothing.
+-- `check_bytes` meets its contract: what `spell` gives is the answer in bytes, in each of its two cases.
 use mathlib.Core.Path.{sym, ap, _∙_}
 use Rattle.check_policy.specs.Answers.{answered}
 use Rattle.trials.specs.Calls.{answerBytes}

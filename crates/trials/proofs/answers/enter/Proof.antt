@@ -1,4 +1,4 @@
--- `enter` meets its contract. Assumes nothing.
+-- `enter` meets its contract.
 use Rattle.spec_turns.specs.Entries.{opens, offers, closes}
 use Rattle.trials.proofs.CallLaws.{request-open, request-offer, request-close}
 use borrow.Author.Needs.{needs}

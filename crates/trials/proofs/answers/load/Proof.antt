@@ -1,4 +1,4 @@
--- `load` meets its contract. Assumes nothing.
+-- `load` meets its contract.
 use Rattle.trials.specs.Calls.{part}
 use Rattle.trials.proofs.CallLaws.{loaded}
 use borrow.Author.Needs.{needs}

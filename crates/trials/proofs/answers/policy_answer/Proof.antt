@@ -1,4 +1,4 @@
--- `policy_answer` meets its contract: a policy that is placed lies inside the bytes. Assumes nothing.
+-- `policy_answer` meets its contract: a policy that is placed lies inside the bytes.
 use Rattle.trials.proofs.CallLaws.{policy-part}
 use Rattle.trials.specs.Calls.{part, answerBytes}
 use Rattle.spec_check.specs.Check.{check}

@@ -1,4 +1,4 @@
--- `reply_bytes` meets its contract. Assumes nothing.
+-- `reply_bytes` meets its contract.
 use mathlib.Core.Path.{ap, sym}
 use Rattle.spec_policy.specs.Bytes.{spell}
 use Rattle.trials.specs.Calls.{replyBytes}

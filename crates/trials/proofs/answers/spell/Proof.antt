@@ -1,4 +1,4 @@
--- `spell` meets its contract: each byte is the definition's. Assumes nothing.
+-- `spell` meets its contract: each byte is the definition's.
 use mathlib.Core.Path.{refl}
 use Rattle.spec_policy.specs.Bytes.{spell}
 use borrow.Author.Needs.{needs}

@@ -1,4 +1,4 @@
--- `field_end` meets its contract. Assumes nothing.
+-- `field_end` meets its contract.
 use Rattle.trials.specs.Calls.{fieldEnd}
 use borrow.Author.Needs.{needs}
 use Rattle.trials.proofs.calls.field_end.Statement.{statement}

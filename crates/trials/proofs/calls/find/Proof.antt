@@ -1,4 +1,4 @@
--- `find` meets its contract. Assumes nothing.
+-- `find` meets its contract.
 use native.Mathlib.Omega.{arith}
 use Rattle.trials.proofs.CallLaws.{policy-from, state-from, events-from, policy-is, state-is, events-is, short, whole}
 use borrow.Author.Needs.{needs}

@@ -1,4 +1,4 @@
--- `awaken` meets its contract. The invariant: the nodes below i are not yet opened. Assumes nothing.
+-- `awaken` meets its contract. The invariant: the nodes below i are not yet opened.
 use Prim.Native.Nat.{_-_}
 use native.Mathlib.Omega.{arith}
 use mathlib.Core.Path.{refl}

@@ -1,4 +1,4 @@
--- `wake` meets its contract. The invariant: the words below i are the records. Assumes nothing.
+-- `wake` meets its contract. The invariant: the words below i are the records.
 use Prim.Native.Nat.{ℕ, _-_}
 use native.Mathlib.Omega.{arith}
 use mathlib.Core.Path.{_≡_, refl}

@@ -1,4 +1,4 @@
--- `drop_sides` meets its contract. Assumes nothing.
+-- `drop_sides` meets its contract.
 use native.Mathlib.Omega.{arith}
 use borrow.Author.Needs.{needs}
 use Rattle.turn_rest.proofs.RestLaws.{sides-kept, sides-over}

@@ -1,4 +1,4 @@
--- `leaf_word` meets its contract. Assumes nothing.
+-- `leaf_word` meets its contract.
 use Prim.Native.Nat.{ℕ, _<_}
 use native.Mathlib.Omega.{arith}
 use mathlib.Core.Path.{ap, ap₂, _∙_, subst}

@@ -1,4 +1,4 @@
--- `rest` meets its contract. Assumes nothing.
+-- `rest` meets its contract.
 use native.Mathlib.Omega.{arith}
 use mathlib.Core.Path.{refl, ap, _∙_}
 use borrow.Author.Needs.{needs}

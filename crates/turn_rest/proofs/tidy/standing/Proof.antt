@@ -1,4 +1,4 @@
--- `standing` meets its contract. Assumes nothing.
+-- `standing` meets its contract.
 use Rattle.turn_rest.proofs.RecordLaws.{number-kept, number-none, number-past}
 use Rattle.turn_rest.proofs.tidy.standing.Statement.{statement}
 use Rattle.turn_rest.proofs.tidy.standing.Tie as tie

@@ -1,4 +1,4 @@
--- `sweep` meets its contract. The invariant: the records of the nodes below i are written. Assumes nothing.
+-- `sweep` meets its contract. The invariant: the records of the nodes below i are written.
 use Prim.Native.Nat.{_-_}
 use native.Mathlib.Omega.{arith}
 use mathlib.Core.Path.{sym, _∙_}

@@ -1,4 +1,4 @@
--- `tidy` meets its contract. Assumes nothing.
+-- `tidy` meets its contract.
 use native.Mathlib.Omega.{arith}
 use borrow.Author.Needs.{needs}
 use Rattle.turn_tables.proofs.FileNodes.{room}

@@ -1,15 +1,15 @@
--- `say` meets its contract. Assumes nothing.
+-- `let_out` meets its contract.
 use borrow.Author.Needs.{needs}
 use Rattle.turn_memory.specs.Words.{pushed}
-use Rattle.turn_memory.proofs.say.Statement.{statement}
-use Rattle.turn_memory.proofs.say.Tie as tie
+use Rattle.turn_memory.proofs.let_out.Statement.{statement}
+use Rattle.turn_memory.proofs.let_out.Tie as tie
 
 returns : tie.Need-returns
 unfolding pushed
 returns c = rw (c .wide .ensures .0)
 
-pub say-spec : {M : Type 1} → statement M
-say-spec =
+pub let-out-spec : {M : Type 1} → statement M
+let-out-spec =
     tie.close
     (tie.spec
     (λ c. search needs)

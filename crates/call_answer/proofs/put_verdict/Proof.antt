@@ -1,19 +1,19 @@
--- `say` meets its contract: the event's two bytes. Assumes nothing.
+-- `put_verdict` meets its contract: the event's two bytes.
 use native.Mathlib.Omega.{arith}
 use lib.ListN.{length-set}
 use borrow.Author.Needs.{needs}
 use Rattle.call_answer.proofs.EndLaws.{said}
-use Rattle.call_answer.proofs.say.Statement.{statement}
-use Rattle.call_answer.proofs.say.Tie as tie
+use Rattle.call_answer.proofs.put_verdict.Statement.{statement}
+use Rattle.call_answer.proofs.put_verdict.Tie as tie
 
 slice-write-events-2 : tie.Need-slice-write-events-2
 slice-write-events-2 c = rw length-set (omega arith)
 
 returns : tie.Need-returns
-returns c = let st = c .before .before in said (st .args .suppressed) _ (st .args .count) (st .args .action) _ (st .pre) (c .verdict .ensures (st .args .action))
+returns c = let st = c .before .before in said (st .args .suppressed) _ (st .args .count) (st .args .action) _ (st .pre) (c .verdict-byte .ensures (st .args .action))
 
-pub say-spec : {M : Type 1} → statement M
-say-spec =
+pub put-verdict-spec : {M : Type 1} → statement M
+put-verdict-spec =
     tie.close
     (tie.spec
     (λ c. search needs)

@@ -1,8 +1,8 @@
--- `owned` meets its contract. Assumes nothing.
+-- `steps_owned` meets its contract.
 use Rattle.turn_tables.proofs.FileNodes.{owned-leaf, owned-trivial, owned-unsatisfiable, owned-pair, owned-unknown}
 use borrow.Author.Needs.{needs}
-use Rattle.turn_tables.proofs.owned.Statement.{statement}
-use Rattle.turn_tables.proofs.owned.Tie as tie
+use Rattle.turn_tables.proofs.steps_owned.Statement.{statement}
+use Rattle.turn_tables.proofs.steps_owned.Tie as tie
 
 returns : tie.Need-returns
 returns c = owned-leaf _ _ _ (c .before .before .before .view-kind .ensures) (c .before .enum-told .given .1) (c .view-count .ensures)
@@ -19,8 +19,8 @@ returns-4 c = owned-pair _ _ _ (c .before .before .view-kind .ensures) (c .enum-
 returns-5 : tie.Need-returns-5
 returns-5 c = owned-unknown _ _ _ (c .before .before .view-kind .ensures) (c .enum-told5 .given .1)
 
-pub owned-spec : {M : Type 1} → statement M
-owned-spec =
+pub steps-owned-spec : {M : Type 1} → statement M
+steps-owned-spec =
     tie.close
     (tie.spec
     (λ c κs. search needs)
