@@ -45,7 +45,8 @@ pub fn carry_action(
     action: u8,
 ) -> Answer
     requires { ⌜ Allowed (now policy) (now state) (now events) (Offer action) × (set .bits ≡ regulated (tree (now policy))) ⌝ }
-    ensures { λ r. ⌜ Gave (carriedOut (now (policy .entry)) (spec.offer action) (now (state .entry)) (now (events .entry))) r (now (state .exit)) (now (events .exit)) ⌝ }
+    ensures { λ r. ⌜ Gave (carriedOut (now (policy .entry)) (spec.offer action) (now (state .entry)) (now (events .entry)))
+        r (now (state .exit)) (now (events .exit)) ⌝ }
 {
     let status = saved_status(state, 0);
     if is_running(status) & set.has(action) {
@@ -58,7 +59,8 @@ pub fn carry_action(
 // A call on the caller's file, state and events. The file's counts are read here, once for the whole call.
 pub fn carry_out(policy: &[u8], state: &mut [u8], events: &mut [u8], call: Call) -> Answer
     requires { ⌜ Runs (now policy) (now state) (now events) call ⌝ }
-    ensures { λ r. ⌜ Gave (carriedOut (now (policy .entry)) (asked call) (now (state .entry)) (now (events .entry))) r (now (state .exit)) (now (events .exit)) ⌝ }
+    ensures { λ r. ⌜ Gave (carriedOut (now (policy .entry)) (asked call) (now (state .entry)) (now (events .entry)))
+        r (now (state .exit)) (now (events .exit)) ⌝ }
 {
     let nodes = nodes_of(policy);
     let steps = steps_of(policy);
@@ -74,7 +76,8 @@ fn carry_counted(
     call: Call,
 ) -> Answer
     requires { ⌜ Counted (now policy) nodes steps × Runs (now policy) (now state) (now events) call ⌝ }
-    ensures { λ r. ⌜ Gave (carriedOut (now (policy .entry)) (asked call) (now (state .entry)) (now (events .entry))) r (now (state .exit)) (now (events .exit)) ⌝ }
+    ensures { λ r. ⌜ Gave (carriedOut (now (policy .entry)) (asked call) (now (state .entry)) (now (events .entry)))
+        r (now (state .exit)) (now (events .exit)) ⌝ }
 {
     match call {
         Call::Open => carry_open(policy, nodes, steps, state, events),
@@ -91,7 +94,8 @@ fn carry_open(
     events: &mut [u8],
 ) -> Answer
     requires { ⌜ Counted (now policy) nodes steps × Runs (now policy) (now state) (now events) Open ⌝ }
-    ensures { λ r. ⌜ Gave (carriedOut (now (policy .entry)) opening (now (state .entry)) (now (events .entry))) r (now (state .exit)) (now (events .exit)) ⌝ }
+    ensures { λ r. ⌜ Gave (carriedOut (now (policy .entry)) opening (now (state .entry)) (now (events .entry)))
+        r (now (state .exit)) (now (events .exit)) ⌝ }
 {
     let mut mem = [0u64; WORDS];
     awaken(policy, nodes, &mut mem);
@@ -107,7 +111,8 @@ fn carry_close(
     events: &mut [u8],
 ) -> Answer
     requires { ⌜ Counted (now policy) nodes steps × Runs (now policy) (now state) (now events) Close ⌝ }
-    ensures { λ r. ⌜ Gave (carriedOut (now (policy .entry)) spec.close (now (state .entry)) (now (events .entry))) r (now (state .exit)) (now (events .exit)) ⌝ }
+    ensures { λ r. ⌜ Gave (carriedOut (now (policy .entry)) spec.close (now (state .entry)) (now (events .entry)))
+        r (now (state .exit)) (now (events .exit)) ⌝ }
 {
     let status = saved_status(state, 0);
     if !is_running(status) {
@@ -128,9 +133,12 @@ fn one_phase(
     events: &mut [u8],
     phase: u8,
 ) -> Answer
-    requires { ⌜ (Passed (now policy) × Counted (now policy) nodes steps) × ((length (now mem) ≡ wordCount) × ((length (now state) ≡ stateSize) × (eventRoom ≤ length (now events)))) ⌝ }
+    requires { ⌜ (Passed (now policy) × Counted (now policy) nodes steps)
+        × ((length (now mem) ≡ wordCount) × ((length (now state) ≡ stateSize) × (eventRoom ≤ length (now events)))) ⌝ }
     requires { ⌜ Tells (now mem) [] ⌝ }
-    ensures { λ r. ⌜ Gave (carried (tree (now (policy .entry))) (spec.phase (tree (now (policy .entry))) (phaseOf phase) (held (tree (now (policy .entry))) (memoryOf (now (mem .entry))))) (now (events .entry))) r (now (state .exit)) (now (events .exit)) ⌝ }
+    ensures { λ r. let t = tree (now (policy .entry)) in
+        ⌜ Gave (carried t (spec.phase t (phaseOf phase) (held t (memoryOf (now (mem .entry))))) (now (events .entry)))
+        r (now (state .exit)) (now (events .exit)) ⌝ }
 {
     prepare(policy, nodes, steps, mem);
     let ran = run_phase(policy, mem, events, 0, phase);
@@ -146,7 +154,8 @@ fn carry_offer(
     action: u8,
 ) -> Answer
     requires { ⌜ Counted (now policy) nodes steps × Runs (now policy) (now state) (now events) (Offer action) ⌝ }
-    ensures { λ r. ⌜ Gave (carriedOut (now (policy .entry)) (spec.offer action) (now (state .entry)) (now (events .entry))) r (now (state .exit)) (now (events .exit)) ⌝ }
+    ensures { λ r. ⌜ Gave (carriedOut (now (policy .entry)) (spec.offer action) (now (state .entry)) (now (events .entry)))
+        r (now (state .exit)) (now (events .exit)) ⌝ }
 {
     let mut mem = [0u64; WORDS];
     wake(state, nodes, &mut mem);

@@ -18,7 +18,9 @@ use turn_memory::WORDS;
 pub fn play(policy: &[u8], mem: &mut [u64; WORDS], events: &mut [u8], action: u8) -> usize
     requires { ⌜ Ready (now policy) (now mem) × (eventRoom ≤ length (now events)) ⌝ }
     requires { ⌜ isAsked (regulated (tree (now policy))) (before action) (held (tree (now policy)) (memoryOf (now mem))) ≡ true ⌝ }
-    ensures { λ r. ⌜ Played (tree (now (policy .entry))) (call (tree (now (policy .entry))) (offer action) (held (tree (now (policy .entry))) (memoryOf (now (mem .entry))))) (memoryOf (now (mem .exit))) (now (events .entry)) (now (events .exit)) r ⌝ }
+    ensures { λ r. let t = tree (now (policy .entry)) in
+        ⌜ Played t (call t (offer action) (held t (memoryOf (now (mem .entry)))))
+        (memoryOf (now (mem .exit))) (now (events .entry)) (now (events .exit)) r ⌝ }
     ensures { λ _. ⌜ Ready (now (policy .entry)) (now (mem .exit)) ⌝ }
 {
     let first = run_phase(policy, mem, events, 0, action);

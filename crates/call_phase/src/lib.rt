@@ -28,8 +28,10 @@ pub fn run_phase(
     phase: u8,
 ) -> Ran
     requires { ⌜ Ready (now policy) (now mem) ⌝ }
-    requires { ⌜ 2 * (count + length (eventsOf (tree (now policy)) (phaseOf phase) (held (tree (now policy)) (memoryOf (now mem))))) ≤ length (now events) ⌝ }
-    ensures { λ r. ⌜ Phased (tree (now (policy .entry))) (phaseOf phase) (memoryOf (now (mem .entry))) (memoryOf (now (mem .exit))) (now (events .entry)) (now (events .exit)) count (r .events) (r .suppressed) ⌝ }
+    requires { let t = tree (now policy) in
+        ⌜ 2 * (count + length (eventsOf t (phaseOf phase) (held t (memoryOf (now mem))))) ≤ length (now events) ⌝ }
+    ensures { λ r. ⌜ Phased (tree (now (policy .entry))) (phaseOf phase) (memoryOf (now (mem .entry))) (memoryOf (now (mem .exit)))
+        (now (events .entry)) (now (events .exit)) count (r .events) (r .suppressed) ⌝ }
     ensures { λ _. ⌜ Ready (now (policy .entry)) (now (mem .exit)) ⌝ }
 {
     let end = turn(policy, mem, ROOT, phase);

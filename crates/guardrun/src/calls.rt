@@ -13,7 +13,8 @@ use run_report::answered;
 use run_report::refused;
 
 fn ask(policy: &[u8], state: &mut [u8], events: &mut [u8], request: Call) -> Answer
-    ensures { λ r. ⌜ Gave (entry (now (policy .entry)) (asked request) (now (state .entry)) (now (events .entry))) r (now (state .exit)) (now (events .exit)) ⌝ }
+    ensures { λ r. ⌜ Gave (entry (now (policy .entry)) (asked request) (now (state .entry)) (now (events .entry)))
+        r (now (state .exit)) (now (events .exit)) ⌝ }
 {
     match request {
         Call::Open => open(policy, state, events),
@@ -30,7 +31,8 @@ pub fn tell(
     text: &mut [u8],
     request: Call,
 ) -> Told
-    ensures { λ r. ⌜ Spoke (entry (now (policy .entry)) (asked request) (now (state .entry)) (now (events .entry))) (asked request) (now (state .exit)) (now (events .exit)) (now (text .entry)) (now (text .exit)) r ⌝ }
+    ensures { λ r. ⌜ Spoke (entry (now (policy .entry)) (asked request) (now (state .entry)) (now (events .entry)))
+        (asked request) (now (state .exit)) (now (events .exit)) (now (text .entry)) (now (text .exit)) r ⌝ }
 {
     let answer = ask(policy, state, events, request);
     match answer {

@@ -7,7 +7,8 @@ ghost use mathlib.Core.List.{_∷_, _++_};
 ghost use Rattle.spec_policy.specs.Bytes.{spell};
 ghost use Rattle.spec_turns.specs.Entries.{entry};
 ghost use Rattle.call_answer.specs.Replies.{Gave};
-ghost use Rattle.trials.specs.Calls.{longestField, Placed, part, policyIn, request, called, fileCalled, answerBytes, replyBytes, sizeBytes, Answers, Wrote};
+ghost use Rattle.trials.specs.Calls.{longestField, Placed, part, policyIn, request, called, fileCalled};
+ghost use Rattle.trials.specs.Calls.{answerBytes, replyBytes, sizeBytes, Answers, Wrote};
 use crate::calls::Parts;
 use call_answer::Answer;
 use check_policy::Checked;
@@ -79,7 +80,8 @@ fn reply_bytes(answer: Answer) -> [u8; 4]
 }
 
 fn enter(number: u8, policy: &[u8], state: &mut [u8], events: &mut [u8], action: u8) -> Answer
-    ensures { λ r. ⌜ Gave (entry (now (policy .entry)) (request number action) (now (state .entry)) (now (events .entry))) r (now (state .exit)) (now (events .exit)) ⌝ }
+    ensures { λ r. ⌜ Gave (entry (now (policy .entry)) (request number action) (now (state .entry)) (now (events .entry)))
+        r (now (state .exit)) (now (events .exit)) ⌝ }
 {
     match number {
         1 => open(policy, state, events),
@@ -99,7 +101,9 @@ fn load(batch: &[u8], from: usize, to: usize, buffer: &mut [u8]) -> usize
 // Makes the call on copies of its two buffers, which are left at the start of `state` and of `events`.
 pub fn call_answer(batch: &[u8], parts: Parts, state: &mut [u8], events: &mut [u8]) -> [u8; 4]
     requires { ⌜ Placed (now batch) parts × (longestField ≤ length (now state)) × (longestField ≤ length (now events)) ⌝ }
-    ensures { λ r. ⌜ Answers (called (now (batch .entry))) r (take (parts .state - (parts .policy + 2)) (now (state .exit))) (take (parts .events - (parts .state + 2)) (now (events .exit))) ⌝ }
+    ensures { λ r. ⌜ Answers (called (now (batch .entry))) r
+        (take (parts .state - (parts .policy + 2)) (now (state .exit)))
+        (take (parts .events - (parts .state + 2)) (now (events .exit))) ⌝ }
 {
     let policy_end = parts.policy;
     let state_end = parts.state;

@@ -200,8 +200,9 @@ pub fn leave(
 )
     requires { ⌜ (length (now mem) ≡ wordCount) × (node < mostNodes) ⌝ }
     requires { ⌜ StepsIn (now policy) first count ⌝ }
-    ensures { λ _. ⌜ ((r start : ℕ) → isAsked r (phaseOf phase) (held (leaf node r start (codeFrom (now (policy .entry)) first count)) (memoryOf (now (mem .entry)))) ≡ true
-        → Left node r start (codeFrom (now (policy .entry)) first count) (phaseOf phase) (now (mem .entry)) (now (mem .exit))) ⌝ }
+    ensures { λ _. let code = codeFrom (now (policy .entry)) first count in
+        ⌜ ((r start : ℕ) → isAsked r (phaseOf phase) (held (leaf node r start code) (memoryOf (now (mem .entry)))) ≡ true
+        → Left node r start code (phaseOf phase) (now (mem .entry)) (now (mem .exit))) ⌝ }
 {
     let to = begin(policy, first, count, offset_at(mem, node), phase);
     let counter = counter_at(mem, node);
@@ -230,7 +231,8 @@ pub fn run(
 ) -> Progress
     requires { ⌜ (length (now mem) ≡ wordCount) × (node < mostNodes) ⌝ }
     requires { ⌜ StepsIn (now policy) first count × Passing (codeFrom (now policy) first count) ⌝ }
-    ensures { λ x. ⌜ ((r start : ℕ) → Ran node r start (codeFrom (now (policy .entry)) first count) (phaseOf phase) (now (mem .entry)) (now (mem .exit)) x) ⌝ }
+    ensures { λ x. let code = codeFrom (now (policy .entry)) first count in
+        ⌜ ((r start : ℕ) → Ran node r start code (phaseOf phase) (now (mem .entry)) (now (mem .exit)) x) ⌝ }
 {
     let offset = offset_at(mem, node);
     let counter = counter_at(mem, node);

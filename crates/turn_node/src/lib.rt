@@ -101,7 +101,8 @@ fn leaf(policy: &[u8], mem: &mut [u64; WORDS], node: usize, phase: u8) -> usize
 
 // "Both asked sides run the phase to its end, left first; then the node's status is read."
 fn parallel(policy: &[u8], mem: &mut [u64; WORDS], node: usize, phase: u8) -> usize
-    requires { ⌜ Stands (now policy) (now mem) node × ((kindAt (now policy) node ≡ aPair parallel (joinAt (now policy) node)) × Asked (now policy) (now mem) node (phaseOf phase)) ⌝ }
+    requires { ⌜ Stands (now policy) (now mem) node
+        × ((kindAt (now policy) node ≡ aPair parallel (joinAt (now policy) node)) × Asked (now policy) (now mem) node (phaseOf phase)) ⌝ }
     ensures { λ r. ⌜ TurnsAt (now (policy .entry)) node (phaseOf phase) (now (mem .entry)) (now (mem .exit)) r ⌝ }
 {
     let x = turn(policy, mem, left_of(policy, node), phase);
@@ -228,7 +229,8 @@ fn rise(policy: &[u8], mem: &mut [u64; WORDS], node: usize, b: u8) -> Risen
 
 // The nodes that took it, from above, which is by their numbers: each has its part to do.
 fn sink(policy: &[u8], mem: &mut [u64; WORDS], top: usize, node: usize, fed: ActionSet) -> usize
-    requires { ⌜ Stands (now policy) (now mem) node × ((k : ℕ) → top ≤ k → k < node → has (fed .bits) k ≡ true → Feeds (now policy) (now mem) node k) ⌝ }
+    requires { ⌜ Stands (now policy) (now mem) node
+        × ((k : ℕ) → top ≤ k → k < node → has (fed .bits) k ≡ true → Feeds (now policy) (now mem) node k) ⌝ }
     ensures { λ r. ⌜ ((ws : Words) (b : Action) → Owing (pathAt (now (policy .entry)) (now (mem .entry)) node) b ws (now (mem .entry)) node top (fed .bits)
         → Emits (pathAt (now (policy .entry)) (now (mem .entry)) node) b ws (now (mem .exit)) (ended r)) ⌝ }
 {

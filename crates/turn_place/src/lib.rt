@@ -84,7 +84,8 @@ pub fn taker(policy: &[u8], mem: &[u64; WORDS], node: usize, b: u8) -> usize
 // Whether an insert goes on from a node, once its right side's phase before the verdict has ended with x.
 pub fn lets_on(policy: &[u8], mem: &[u64; WORDS], node: usize, x: usize) -> bool
     requires { ⌜ Sided (now policy) node ⌝ }
-    ensures { λ r. ⌜ r ≡ emits (joinAt (now (policy .entry)) node) (memoryOf (now (mem .entry)) (rightAt (now (policy .entry)) node) .status) (eqb x 1) ⌝ }
+    ensures { λ r. ⌜ r ≡ emits (joinAt (now (policy .entry)) node)
+        (memoryOf (now (mem .entry)) (rightAt (now (policy .entry)) node) .status) (eqb x 1) ⌝ }
 {
     let status = status_at(mem, right_of(policy, node));
     emits(join_of(policy, node), status, x == SUPPRESSED)

@@ -189,7 +189,8 @@ pub fn is_asked(mem: &[u64; WORDS], node: usize, phase: u8) -> bool
 // The status that a node's sides give it.
 pub fn joined_at(policy: &[u8], mem: &[u64; WORDS], node: usize) -> u8
     requires { ⌜ Sided (now policy) node ⌝ }
-    ensures { λ r. ⌜ statusOf r ≡ joinedIn (joinAt (now (policy .entry)) node) (leftAt (now (policy .entry)) node) (rightAt (now (policy .entry)) node) (memoryOf (now (mem .entry))) ⌝ }
+    ensures { λ r. ⌜ statusOf r ≡ joinedIn (joinAt (now (policy .entry)) node)
+        (leftAt (now (policy .entry)) node) (rightAt (now (policy .entry)) node) (memoryOf (now (mem .entry))) ⌝ }
 {
     let left = status_at(mem, left_of(policy, node));
     let right = status_at(mem, right_of(policy, node));

@@ -28,7 +28,8 @@ pub fn tell(mem: &mut [u64; WORDS], events: &mut [u8], count: usize) -> usize
     requires { ⌜ (length (now mem) ≡ wordCount) × (getD (now mem) countPlace 0 ≤ 255) ⌝ }
     requires { ⌜ 2 * (count + getD (now mem) countPlace 0) ≤ length (now events) ⌝ }
     ensures { λ _. ⌜ Kept (now (mem .entry)) (now (mem .exit)) ⌝ }
-    ensures { λ r. ⌜ ((es : List Action) → Tells (now (mem .entry)) es → Sent es (now (mem .exit)) (now (events .entry)) (now (events .exit)) count r) ⌝ }
+    ensures { λ r. ⌜ ((es : List Action) → Tells (now (mem .entry)) es
+        → Sent es (now (mem .exit)) (now (events .entry)) (now (events .exit)) count r) ⌝ }
 {
     let n = mem[TOLD_COUNT] as usize;
     let mut k = n;
