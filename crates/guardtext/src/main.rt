@@ -2,9 +2,9 @@
 // (`tell`): it is what `specs/Shown` says of the file. Not proved, for no contract of the kit's can say it: that the bytes which `read`
 // leaves are those that came in, and that the text handed to `write` comes out. A read that fails counts as the end of the input.
 ghost use mathlib.Core.Path.{_≡_};
-ghost use Prim.Native.Nat.{_≤_};
+ghost use Prim.Native.Nat.{_+_, _≤_};
 ghost use lib.ListN.{length};
-ghost use Rattle.spec_policy.specs.Records.{nodeBytes, stepBytes};
+ghost use Rattle.spec_policy.specs.Records.{mostFile, nodeBytes, stepBytes};
 ghost use Rattle.spec_text.specs.Printing.{text, printed};
 ghost use Rattle.text_append.specs.Refusal.{refusal};
 ghost use Rattle.text_print.specs.Printing.{given, Gave};
@@ -14,7 +14,6 @@ use check_policy::Checked;
 use check_policy::check;
 use file_records::FRONT_SIZE;
 use file_records::MOST_FILE;
-use file_records::byte;
 use file_records::node_place;
 use file_records::nodes_of;
 use libc::STDIN_FILENO;
@@ -32,7 +31,10 @@ fn refuse(room: &mut [u8], n: u8) -> Printed
 // The records of a file that passes lie one after another behind its front.
 fn print_records(policy: &[u8], room: &mut [u8]) -> Printed
     requires { ⌜ Passed (now policy) × (textRoom ≤ length (now room)) ⌝ }
-    ensures { λ r. ⌜ Gave (given (printed (nodeBytes (now (policy .entry))) (stepBytes (now (policy .entry)))) (now (room .entry))) r (now (room .exit)) × (r ≡ Printed.Short → ⊥) ⌝ }
+    ensures { λ r. ⌜
+        Gave (given (printed (nodeBytes (now (policy .entry))) (stepBytes (now (policy .entry)))) (now (room .entry))) r (now (room .exit))
+        × (r ≡ Printed.Short → ⊥)
+        ⌝ }
 {
     let steps = node_place(nodes_of(policy));
     print(&policy[FRONT_SIZE..steps], &policy[steps..], room)
@@ -53,16 +55,18 @@ fn tell(input: &[u8], room: &mut [u8]) -> Printed
 }
 
 // One byte more than the longest policy: where all of it is used, the input is none.
-fn input_room() -> [u8; 6647]
-    ensures { λ r. ⌜ 6647 ≡ length r ⌝ }
+fn input_room() -> [u8; MOST_FILE + 1]
+    ensures { λ r. ⌜ mostFile + 1 ≡ length r ⌝ }
 {
-    [0; 6647]
+    [0; MOST_FILE + 1]
 }
 
-fn text_room() -> [u8; 131072]
-    ensures { λ r. ⌜ 131072 ≡ length r ⌝ }
+const TEXT_ROOM: usize = 131072;
+
+fn text_room() -> [u8; TEXT_ROOM]
+    ensures { λ r. ⌜ textRoom ≡ length r ⌝ }
 {
-    [0; 131072]
+    [0; TEXT_ROOM]
 }
 
 // There is always room for the text, and every file that passes has one (`every-file-shown`).

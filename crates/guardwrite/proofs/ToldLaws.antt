@@ -34,7 +34,7 @@ use Rattle.text_append.specs.Refusal.{refusal}
 use Rattle.text_append.proofs.AddedLaws.{tells}
 use Rattle.text_fault.specs.Expected.{lineSays, faultIn}
 use Rattle.text_fault.proofs.FaultLaws.{says-short}
-use Rattle.guardwrite.specs.Said.{filed, answered, mostText, mostSays, tooLong, outRoom, madeOver, made}
+use Rattle.guardwrite.specs.Said.{filed, answered, mostText, mostSays, tooLong, nodeRoom, stepRoom, outRoom, madeOver, made}
 
 pub instead : {b x y : Bytes} {r : ℕ} → Tells b r x → x ≡ y → Tells b r y
 instead {b} {x} {y} {r} t e = subst (Tells b r) e t
@@ -237,7 +237,7 @@ module _ (t N S N′ S′ out : Bytes) where
       go ns ss true g = unlike (Read (length ns / 16) (length ss / 12)) (BadLine l) (λ z. omega arith) (answer-of (given-true g))
       go ns ss false g = unlike Short (BadLine l) (λ z. omega arith) (given-false g)
 
-  module _ (nodes : 512 ≡ length N) (steps : 6156 ≡ length S) where
+  module _ (nodes : nodeRoom ≡ length N) (steps : stepRoom ≡ length S) where
     -- more than fits is more than a file may have
     too-many : (ns ss : Bytes) → fits ns ss ≡ false → refusal 3 ≡ filed (writes ns ss out)
     unfolding filed writing.refusal holds

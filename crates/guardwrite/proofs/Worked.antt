@@ -7,7 +7,8 @@ use Rattle.spec_text.specs.Opened.{opened as texts}
 use Rattle.spec_text.specs.Examples.{repeated}
 use Rattle.spec_writer.specs.Writing.{holds, written, whole, fromThree, refusal, laid, after, writes}
 use Rattle.text_append.specs.Refusal as spelling
-use Rattle.text_fault.specs.Expected.{heading, lineSays, usages, usage, expected, firstWord, astray, fault, roomAfter, roomBefore, lineNumber, faultIn}
+use Rattle.text_forms.specs.Usage.{usages, usage}
+use Rattle.text_fault.specs.Expected.{heading, lineSays, expected, firstWord, astray, fault, roomAfter, roomBefore, lineNumber, faultIn}
 use Rattle.guardwrite.specs.Said.{filed, answered, tooLong, madeOver, made}
 use Rattle.guardwrite.specs.Worked.{says, cases, AllMade}
 

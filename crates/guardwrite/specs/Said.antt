@@ -1,5 +1,5 @@
 -- What guardwrite prints of a text.
-use Prim.Native.Nat.{ℕ}
+use Prim.Native.Nat.{ℕ, _+_, _*_}
 use mathlib.Core.Bool.{true, false}
 use lib.Dec.{ltb}
 use lib.ListN.{length, take, replicate}
@@ -9,7 +9,7 @@ use Rattle.spec_text.specs.Reading.{Read, records, badLine, readText}
 use Rattle.text_append.specs.Refusal.{refusal}
 use Rattle.text_fault.specs.Expected.{lineSays, faultIn}
 use Rattle.spec_writer.specs.Writing.{wrote, refuses, Result, writes}
-use Rattle.spec_policy.specs.Records.{mostFile}
+use Rattle.spec_policy.specs.Records.{nodeSize, stepSize, mostNodes, mostSteps, mostFile}
 
 -- the file, or a refusal and no byte of a file
 unfoldable pub filed : Result → Bytes
@@ -33,6 +33,13 @@ tooLong text = lineSays (length (lines (take mostText text))) mostSays
 -- All that is printed, from what the output held before and all that is read.
 unfoldable pub madeOver : Bytes → Bytes → Bytes
 madeOver room text = elim (ltb mostText (length text)) [ true ↦ tooLong text | false ↦ answered room text (readText text) ]
+
+-- the buffers into which a text is read: room for one node and one step more than a file may have
+abbrev pub nodeRoom : ℕ
+nodeRoom = nodeSize * (mostNodes + 1)
+
+abbrev pub stepRoom : ℕ
+stepRoom = stepSize * (mostSteps + 1)
 
 -- "length is 6 + 16n + 12m", of 31 nodes and 512 steps
 abbrev pub outRoom : ℕ

@@ -2,8 +2,10 @@
 // is printed of the bytes read (`told`): it is what `specs/Said` says. Not proved, for no contract of the kit's can say it: that the bytes
 // which `read` leaves are those that came in, and that those handed to `write` come out. A read that fails counts as the end of the input.
 ghost use mathlib.Core.Path.{_≡_};
+ghost use Prim.Native.Nat.{_+_};
 ghost use lib.ListN.{length};
-ghost use Rattle.guardwrite.specs.Said.{outRoom};
+ghost use Rattle.guardwrite.specs.Said.{mostText, outRoom};
+use crate::told::MOST_TEXT;
 use crate::told::tell;
 use file_records::MOST_FILE;
 use libc::STDIN_FILENO;
@@ -12,10 +14,10 @@ use libc::STDOUT_FILENO;
 mod told;
 
 // Room for the longest text, and one byte by which a longer one is known.
-fn text_room() -> [u8; 262145]
-    ensures { λ r. ⌜ 262145 ≡ length r ⌝ }
+fn text_room() -> [u8; MOST_TEXT + 1]
+    ensures { λ r. ⌜ mostText + 1 ≡ length r ⌝ }
 {
-    [0; 262145]
+    [0; MOST_TEXT + 1]
 }
 
 // Room for the longest file.

@@ -6,7 +6,9 @@ ghost use Rattle.spec_text.specs.Reading.{readText};
 ghost use Rattle.spec_writer.specs.Writing.{writes};
 ghost use Rattle.text_append.specs.Added.{Tells};
 ghost use Rattle.text_append.specs.Refusal.{refusal};
-ghost use Rattle.guardwrite.specs.Said.{filed, answered, mostText, tooLong, outRoom, made};
+ghost use Rattle.guardwrite.specs.Said.{filed, answered, mostText, tooLong, nodeRoom, stepRoom, outRoom, made};
+use file_records::MOST_NODES;
+use file_records::MOST_STEPS;
 use file_records::NODE_SIZE;
 use file_records::STEP_SIZE;
 use file_writer::Written;
@@ -38,11 +40,13 @@ fn file(nodes: &[u8], steps: &[u8], out: &mut [u8]) -> usize
     }
 }
 
+pub const MOST_TEXT: usize = 262144;
+
 // A function, since a proof is slow where it meets the number in the place of a slice's end.
 fn most_text() -> usize
     ensures { λ r. ⌜ r ≡ mostText ⌝ }
 {
-    262144
+    MOST_TEXT
 }
 
 fn too_long(text: &[u8], out: &mut [u8]) -> usize
@@ -58,7 +62,7 @@ fn too_long(text: &[u8], out: &mut [u8]) -> usize
 
 // Reads the text into the two buffers, and tells what became of it.
 fn fill(text: &[u8], nodes: &mut [u8], steps: &mut [u8], out: &mut [u8]) -> usize
-    requires { ⌜ (512 ≡ length (now nodes)) × (6156 ≡ length (now steps)) × (outRoom ≤ length (now out)) ⌝ }
+    requires { ⌜ (nodeRoom ≡ length (now nodes)) × (stepRoom ≡ length (now steps)) × (outRoom ≤ length (now out)) ⌝ }
     ensures { λ r. ⌜ Tells (now (out .exit)) r (answered (now (out .entry)) (now (text .entry)) (readText (now (text .entry)))) ⌝ }
 {
     let answer = read(text, nodes, steps);
@@ -69,17 +73,17 @@ fn fill(text: &[u8], nodes: &mut [u8], steps: &mut [u8], out: &mut [u8]) -> usiz
     }
 }
 
-// Room for 32 nodes and for 513 steps: what does not fit is what the writer refuses with 3.
-fn node_room() -> [u8; 512]
-    ensures { λ r. ⌜ 512 ≡ length r ⌝ }
+// Room for one node and one step more than a file may have: what does not fit is what the writer refuses with 3.
+fn node_room() -> [u8; NODE_SIZE * (MOST_NODES + 1)]
+    ensures { λ r. ⌜ nodeRoom ≡ length r ⌝ }
 {
-    [0; 512]
+    [0; NODE_SIZE * (MOST_NODES + 1)]
 }
 
-fn step_room() -> [u8; 6156]
-    ensures { λ r. ⌜ 6156 ≡ length r ⌝ }
+fn step_room() -> [u8; STEP_SIZE * (MOST_STEPS + 1)]
+    ensures { λ r. ⌜ stepRoom ≡ length r ⌝ }
 {
-    [0; 6156]
+    [0; STEP_SIZE * (MOST_STEPS + 1)]
 }
 
 // All that is printed of the text.

@@ -16,10 +16,12 @@ use Rattle.spec_text.specs.Forms.{Fields, Form, forms, named}
 use Rattle.spec_text.specs.Reading.{Line, nothing, unreadable, entry, lineOf}
 use Rattle.spec_text.proofs.TableLaws.{first-passes}
 use Rattle.text_words.specs.Scanned.{Next, wordAnd}
-use Rattle.text_line.specs.Tables.{formCount, lineMeant}
+use Rattle.text_forms.specs.Usage.{usages, usage}
+use Rattle.text_forms.specs.Table.{formCount}
+use Rattle.text_line.specs.Lines.{lineMeant}
 use Rattle.text_measure.proofs.CountLaws.{meant-entry}
 use Rattle.text_append.proofs.AddedLaws.{decimal-below}
-use Rattle.text_fault.specs.Expected.{heading, lineSays, usages, usage, expected, firstWord, astray, fault, roomBefore, lineNumber, faultIn}
+use Rattle.text_fault.specs.Expected.{heading, lineSays, expected, firstWord, astray, fault, roomBefore, lineNumber, faultIn}
 
 pub first-is : (line : Bytes) (start end : ℕ) → Next line 0 start end → firstWord (words line) ≡ slice start end line
 unfolding wordAnd firstWord
@@ -32,15 +34,15 @@ first-is line start end n = go (ltb start end) refl
         ap firstWord (n .is) ∙ rw (wordAnd, e) (sym (ap (λ (k : ℕ). slice start k line) z ∙ slice-empty start line))
 
 module _ (ws : List Bytes) (form : ℕ) (xs : Fields) (is : lineOf ws ≡ lineMeant form xs) (room : ℕ) where
-  pub fault-none : form ≡ 15 → fault (lineOf ws) ws room ≡ []
+  pub fault-none : form ≡ formCount → fault (lineOf ws) ws room ≡ []
   unfolding fault lineMeant
   fault-none e = ap (λ (l : Line). fault l ws room) is ∙ rw (lineMeant, le-ltb form formCount (omega arith), eq-eqb form formCount e)
 
-  pub fault-step : form < 15 → fault (lineOf ws) ws room ≡ astray room
+  pub fault-step : form < formCount → fault (lineOf ws) ws room ≡ astray room
   unfolding fault
   fault-step h = ap (λ (l : Line). fault l ws room) (is ∙ meant-entry form xs h)
 
-  pub fault-bad : 15 < form → fault (lineOf ws) ws room ≡ expected (named (firstWord ws))
+  pub fault-bad : formCount < form → fault (lineOf ws) ws room ≡ expected (named (firstWord ws))
   unfolding fault lineMeant
   fault-bad h = ap (λ (l : Line). fault l ws room) is ∙ rw (lineMeant, le-ltb form formCount (omega arith), ne-eqb form formCount (λ e. omega arith))
 

@@ -1,4 +1,4 @@
-pub mod RowLaws
+pub mod UsageLaws
 pub mod StartLaws
 pub mod RoomLaws
 pub mod FaultLaws

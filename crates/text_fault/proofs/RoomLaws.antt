@@ -1,7 +1,7 @@
 -- Laws of how many steps may follow the last node.
-use Prim.Native.Nat.{ℕ, zero, suc, _+_, _-_, _≤_, _<_}
+use Prim.Native.Nat.{ℕ, zero, suc, _-_, _≤_, _<_}
 use native.Mathlib.Omega.{arith}
-use mathlib.Core.Path.{_≡_, refl, sym, ap, _∙_, subst}
+use mathlib.Core.Path.{_≡_, refl, sym, ap, _∙_}
 use mathlib.Core.Bool.{Bool, true, false}
 use mathlib.Core.List.{List, [], _∷_}
 use lib.Dec.{ltb, eqb}
@@ -9,44 +9,25 @@ use lib.ListN.{length, take, drop, drop-of-length-le}
 use lib.Seq.{take-nil}
 use borrow.Author.Tests.{ltb-true}
 use Rattle.spec_policy.specs.Bytes.{Bytes}
-use Rattle.spec_policy.specs.Lists.{listed}
 use Rattle.spec_text.specs.Words.{lines, linesFrom, words, wordsFrom, ended}
-use Rattle.spec_text.specs.Forms.{Sort, node, step, Fields, forms}
+use Rattle.spec_text.specs.Forms.{Sort, node, step, Fields}
 use Rattle.spec_text.specs.Reading.{Line, nothing, unreadable, entry, lineOf, readLines}
-use Rattle.text_line.specs.Tables.{formCount, noForm, formAt, lineMeant}
-use Rattle.text_line.proofs.TableLaws.{table-at}
+use Rattle.text_forms.specs.Table.{formCount, nodeForms, formAt}
+use Rattle.text_forms.proofs.FormLaws.{form-node, form-step}
+use Rattle.text_line.specs.Lines.{lineMeant}
 use Rattle.text_measure.specs.Measures.{ReadsOn}
 use Rattle.text_measure.proofs.LineLaws.{read-on}
-use Rattle.text_measure.proofs.CountLaws.{form-node, form-step, meant-entry}
+use Rattle.text_measure.proofs.CountLaws.{meant-entry}
 use Rattle.text_fault.specs.Expected.{roomAfter}
 
 -- ---- one line
 
--- of the nodes only a leaf has steps
-no-room : (form : ℕ) → 1 ≤ form → form < 7 → formAt form .room ≡ 0
-unfolding listed formAt noForm forms
-no-room form l h =
-    let z : 1 + (form - 1) ≡ form = omega arith in
-    let k : form - 1 < 6 = omega arith in
-    subst (λ (i : ℕ). formAt i .room ≡ 0) z
-    (sym (table-at (λ i. formAt (1 + i) .room) 6 (listed (λ i. 0) 0 6) refl 0 (form - 1) k) ∙ table-at (λ i. 0) 6 (listed (λ i. 0) 0 6) refl 0 (form - 1) k)
-
-leaf-room : (form : ℕ) → form ≡ 0 → formAt form .room ≡ 255
-unfolding formAt forms
-leaf-room form e = ap (λ (i : ℕ). formAt i .room) e
-
 module _ (form room : ℕ) (xs : Fields) (ls : List Line) where
-  of-node : (r : ℕ) → form < 7 → formAt form .room ≡ r → roomAfter room (lineMeant form xs ∷ ls) ≡ roomAfter r ls
+  pub room-node : (r : ℕ) → form < nodeForms → r ≡ formAt form .room → roomAfter room (lineMeant form xs ∷ ls) ≡ roomAfter r ls
   unfolding roomAfter
-  of-node r h e = ap (λ (l : Line). roomAfter room (l ∷ ls)) (meant-entry form xs (omega arith)) ∙ rw (form-node form h, roomAfter) (ap (λ (y : ℕ). roomAfter y ls) e)
+  room-node r h e = ap (λ (l : Line). roomAfter room (l ∷ ls)) (meant-entry form xs (omega arith)) ∙ rw (form-node form h, roomAfter) (ap (λ (y : ℕ). roomAfter y ls) (sym e))
 
-  pub room-leaf : form ≡ 0 → roomAfter room (lineMeant form xs ∷ ls) ≡ roomAfter 255 ls
-  room-leaf e = of-node 255 (omega arith) (leaf-room form e)
-
-  pub room-node : (form ≡ 0 → ⊥) → form < 7 → roomAfter room (lineMeant form xs ∷ ls) ≡ roomAfter 0 ls
-  room-node n h = of-node 0 h (no-room form (omega arith) h)
-
-  pub room-other : 7 ≤ form → roomAfter room (lineMeant form xs ∷ ls) ≡ roomAfter room ls
+  pub room-other : nodeForms ≤ form → roomAfter room (lineMeant form xs ∷ ls) ≡ roomAfter room ls
   unfolding roomAfter lineMeant
   room-other l = go (ltb form formCount) refl (eqb form formCount) refl
     where

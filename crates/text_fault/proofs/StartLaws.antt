@@ -12,7 +12,8 @@ use Rattle.spec_policy.specs.Bytes.{Bytes}
 use Rattle.spec_text.specs.Words.{newline, linesFrom, lines}
 use Rattle.text_words.proofs.ScanLaws.{from-here}
 use Rattle.text_measure.specs.Measures.{LineEnds}
-use Rattle.text_measure.proofs.LineLaws.{first-of-more, last-line, part-slice}
+use Rattle.text_words.proofs.ScanLaws.{part-slice}
+use Rattle.text_measure.proofs.LineLaws.{first-of-more, last-line}
 
 -- ---- how many lines
 

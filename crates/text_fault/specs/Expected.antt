@@ -1,14 +1,14 @@
 -- What is said of a text that cannot be read: the line, and what was expected in it.
 use Prim.Native.Nat.{ℕ, zero, suc, _-_}
-use Prim.Native.String.{String}
 use mathlib.Core.List.{List, [], _∷_, _++_}
 use mathlib.Core.Option.{Option, none, some}
 use lib.ListN.{take, getD}
 use Rattle.spec_policy.specs.Bytes.{Bytes}
 use Rattle.spec_text.specs.Words.{ascii, lines, words}
 use Rattle.spec_text.specs.Numerals.{decimal}
-use Rattle.spec_text.specs.Forms.{Sort, node, step, Form, named}
+use Rattle.spec_text.specs.Forms.{node, step, Form, named}
 use Rattle.spec_text.specs.Reading.{Line, nothing, unreadable, entry, lineOf, readLines}
+use Rattle.text_forms.specs.Usage.{usage}
 
 -- a line in place of a file
 unfoldable pub heading : ℕ → Bytes
@@ -18,14 +18,6 @@ unfoldable pub lineSays : ℕ → Bytes → Bytes
 lineSays n what = heading n ++ (what ++ ascii "\n")
 
 -- ---- what was expected in a line
-
--- what follows the name of a form of this kind
-unfoldable pub usages : Sort → List String
-usages node = "" ∷ " {ACTIONS} START" ∷ "" ∷ "" ∷ " LEFT RIGHT" ∷ " LEFT RIGHT" ∷ " LEFT RIGHT" ∷ " LEFT RIGHT" ∷ []
-usages step = "" ∷ " TAKE DONE" ∷ " TO" ∷ " TO" ∷ " ACTION TO" ∷ " {ACTIONS} YES NO" ∷ " AMOUNT YES NO" ∷ "" ∷ "" ∷ []
-
-unfoldable pub usage : Form → Bytes
-usage f = ascii (f .name) ++ ascii (getD (usages (f .sort)) (f .kind) "")
 
 -- by the form of its first word
 unfoldable pub expected : Option Form → Bytes

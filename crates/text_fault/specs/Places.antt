@@ -1,33 +1,25 @@
--- What the code's places and tables say of a text.
-use Prim.Native.Nat.{ℕ, _≤_}
+-- What the code's places say of a text.
+use Prim.Native.Nat.{ℕ, zero, suc, _+_, _≤_}
 use mathlib.Core.Path.{_≡_}
-use mathlib.Core.List.{List, [], _∷_, _++_}
+use mathlib.Core.Bool.{true, false}
+use mathlib.Core.List.{[], _++_}
+use lib.Dec.{eqb}
 use lib.ListN.{length, getD, drop}
 use Rattle.spec_policy.specs.Bytes.{Bytes}
-use Rattle.spec_policy.specs.Lists.{listed}
-use Rattle.spec_text.specs.Words.{lines}
-use Rattle.text_line.specs.Tables.{formsFrom}
-use Rattle.text_fault.specs.Expected.{expected, lineNumber}
+use Rattle.spec_text.specs.Words.{ascii, lines}
+use Rattle.text_forms.specs.Table.{formCount, formAt}
+use Rattle.text_fault.specs.Expected.{lineNumber}
 
 -- Line n begins at `start`; after the last there is an empty one at the end.
 pub record Starts (text : Bytes) (n start : ℕ) : Type 0 where
   pub inside : start ≤ length text
   pub is : lineNumber text n ≡ getD (lines (drop start text)) 0 []
 
--- ---- what is expected, by the places of the table of lines: one text after another, and past the last form that of any other word
+-- ---- the first words of the first i forms, one after another
 
-abbrev pub rowCount : ℕ
-rowCount = 16
+unfoldable pub between : ℕ → Bytes
+between i = elim (eqb i 0) [ true ↦ [] | false ↦ elim (eqb (i + 1) formCount) [ true ↦ ascii " or " | false ↦ ascii ", " ] ]
 
-unfoldable pub row : ℕ → Bytes
-row i = expected (formsFrom i)
-
-unfoldable pub joinedRows : List Bytes → Bytes
-joinedRows [] = []
-joinedRows (r ∷ rs) = r ++ joinedRows rs
-
-unfoldable pub rowText : Bytes
-rowText = joinedRows (listed row 0 rowCount)
-
-unfoldable pub rowEnd : ℕ → ℕ
-rowEnd i = length (joinedRows (listed row 0 i))
+unfoldable pub wordsTo : ℕ → Bytes
+wordsTo zero = []
+wordsTo (suc i) = wordsTo i ++ (between i ++ ascii (formAt i .name))

@@ -1,23 +1,29 @@
 // What was expected in the line of a text that cannot be read, put into a lent buffer.
 ghost use mathlib.Core.Path.{_≡_};
 ghost use mathlib.Core.List.{List, _∷_};
-ghost use Prim.Native.Nat.{_+_, _≤_};
+ghost use Prim.Native.Nat.{_+_, _≤_, _<_};
 ghost use lib.ListN.{length};
 ghost use Rattle.spec_policy.specs.Bytes.{Bytes};
 ghost use Rattle.spec_text.specs.Words.{lines, words};
 ghost use Rattle.spec_text.specs.Forms.{Fields};
 ghost use Rattle.spec_text.specs.Reading.{Line, lineOf};
-ghost use Rattle.text_line.specs.Tables.{formsFrom, lineMeant};
+ghost use Rattle.text_forms.specs.Table.{formCount, formsFrom};
+ghost use Rattle.text_line.specs.Lines.{lineMeant};
 ghost use Rattle.text_append.specs.Added.{Added};
 ghost use Rattle.text_fault.specs.Expected.{heading, lineSays, expected, astray, fault, roomAfter, roomBefore, faultIn};
-ghost use Rattle.text_fault.specs.Places.{Starts, rowCount, rowText, rowEnd};
+ghost use Rattle.text_fault.specs.Places.{Starts, between, wordsTo};
 use text_append::append;
 use text_append::append_number;
+use text_forms::forms::FORM_COUNT;
+use text_forms::forms::NODE_FORMS;
+use text_forms::forms::form_at;
+use text_line::NOTHING;
 use text_line::form_of;
 use text_line::read_line;
 use text_measure::NEWLINE;
 use text_measure::line_at;
 use text_measure::line_end;
+use text_measure::room_after;
 use text_words::next_word;
 
 // ---- the line
@@ -65,11 +71,8 @@ fn line_start(text: &[u8], n: usize) -> usize
 fn room_line(form: usize, room: usize) -> usize
     ensures { λ r. ⌜ ((xs : Fields) (ls : List Line) → roomAfter room (lineMeant form xs ∷ ls) ≡ roomAfter r ls) ⌝ }
 {
-    if form == 0 {
-        return 255;
-    }
-    if form < 7 {
-        return 0;
+    if form < NODE_FORMS {
+        return room_after(form);
     }
     room
 }
@@ -96,62 +99,48 @@ fn room_before(text: &[u8], n: usize) -> usize
 
 // ---- what was expected
 
-const ROWS: [u8; 289] =
-    *b"leaf {ACTIONS} STARTtrivialunsatisfiableand LEFT RIGHTseq-and LEFT RIGHTor LEFT RIGHTseq-or LEFT RIGHTnext TAKE DONEok TOsup TOins ACTION TOacase {ACTIONS} YES NOspend AMOUNT YES NOendhaltleaf, trivial, unsatisfiable, and, seq-and, or, seq-or, next, ok, sup, ins, acase, spend, end or halt";
-
-const ENDS: [usize; 17] = [
-    0,
-    20,
-    27,
-    40,
-    54,
-    72,
-    85,
-    102,
-    116,
-    121,
-    127,
-    140,
-    162,
-    181,
-    184,
-    188,
-    289,
-];
-
-fn rows() -> [u8; 289]
-    ensures { λ r. ⌜ r ≡ rowText ⌝ }
+// What stands before the first word of the form at a place, where all of them are listed.
+fn separate(i: usize, out: &mut [u8], at: usize) -> usize
+    requires { ⌜ i < formCount ⌝ }
+    ensures { λ r. ⌜ Added (now (out .entry)) at (between i) (now (out .exit)) r ⌝ }
 {
-    ROWS
-}
-
-// Where the row before this one ends.
-fn row_end(i: usize) -> usize
-    requires { ⌜ i ≤ rowCount ⌝ }
-    ensures { λ r. ⌜ r ≡ rowEnd i ⌝ }
-{
-    ENDS[i]
-}
-
-// A form's row; that of any other word past the last form.
-fn row_of(form: usize) -> usize
-    ensures { λ r. ⌜ (r ≤ 15) × (formsFrom form ≡ formsFrom r) ⌝ }
-{
-    if form < 15 {
-        return form;
+    if i == 0 {
+        return at;
     }
-    15
+    if i + 1 == FORM_COUNT {
+        return append(out, at, b" or ");
+    }
+    append(out, at, b", ")
+}
+
+// The first words of all forms.
+fn all_words(out: &mut [u8], at: usize) -> usize
+    ensures { λ r. ⌜ Added (now (out .entry)) at (wordsTo formCount) (now (out .exit)) r ⌝ }
+{
+    let mut end = at;
+    let mut i = 0;
+    while i < FORM_COUNT {
+        let begun = separate(i, out, end);
+        let form = form_at(i);
+        let usage = form.usage;
+        let n = form.word;
+        end = append(out, begun, &usage[..n]);
+        i += 1;
+    }
+    end
 }
 
 // By the form of the line's first word.
 fn usage(form: usize, out: &mut [u8], at: usize) -> usize
     ensures { λ r. ⌜ Added (now (out .entry)) at (expected (formsFrom form)) (now (out .exit)) r ⌝ }
 {
-    let table = rows();
-    let row = row_of(form);
-    let from = row_end(row);
-    let to = row_end(row + 1);
-    append(out, at, &table[from..to])
+    if form < FORM_COUNT {
+        let row = form_at(form);
+        let usage = row.usage;
+        let n = row.length;
+        return append(out, at, &usage[..n]);
+    }
+    all_words(out, at)
 }
 
 // Of a step that could be read.
@@ -166,20 +155,23 @@ fn misplaced(room: usize, out: &mut [u8], at: usize) -> usize
 
 // Of any line, where so many steps might follow the last node.
 fn expect(line: &[u8], room: usize, out: &mut [u8], at: usize) -> usize
-    ensures { λ r. ⌜ Added (now (out .entry)) at (fault (lineOf (words (now (line .entry)))) (words (now (line .entry))) room) (now (out .exit)) r ⌝ }
+    ensures { λ r. ⌜
+        Added (now (out .entry)) at
+        (fault (lineOf (words (now (line .entry)))) (words (now (line .entry))) room) (now (out .exit)) r
+        ⌝ }
 {
     let read = read_line(line);
     let form = read.form;
-    if form == 15 {
+    if form == NOTHING {
         return at;
     }
-    if form < 15 {
+    if form < FORM_COUNT {
         return misplaced(room, out, at);
     }
     let w = next_word(line, 0);
     let start = w.start;
     let end = w.end;
-    usage(form_of(line, start, end), out, at)
+    usage(form_of(&line[start..end]), out, at)
 }
 
 // ---- the line that is said

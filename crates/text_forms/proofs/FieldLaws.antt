@@ -1,10 +1,9 @@
 -- A record's fields: its line says the whole of it just where each is named or zero.
 use Prim.Native.Nat.{ℕ, zero, suc, _^_, _≤_, _<_}
 use native.Mathlib.Omega.{arith}
-use mathlib.Core.Path.{_≡_, refl, sym, ap, ap₂, _∙_, subst}
+use mathlib.Core.Path.{_≡_, refl, sym, ap, _∙_, subst}
 use mathlib.Core.Bool.{Bool, true, false, _&&_, _||_, and-true, or-false, and-assoc, or-assoc}
 use mathlib.Core.List.{List, [], _∷_, _++_}
-use mathlib.Core.Option.{Option}
 use lib.Dec.{T, eqb, leb, eqb→eq, lit≤}
 use lib.ListN.{length, getD, set, length-set}
 use lib.Seq.{getD-set-same, getD-set-other}
@@ -17,14 +16,13 @@ use Rattle.spec_policy.specs.Parts as parts
 use Rattle.spec_policy.proofs.ByteLaws.{number-less, spelt-of-spell}
 use Rattle.spec_policy.proofs.NumberLaws.{number-byte}
 use Rattle.spec_text.specs.Words.{sameBytes}
-use Rattle.spec_text.specs.Forms.{Sort, node, step, size, Fields, fieldsIn, recordOf, Slot, place, bound, Form, ofKind, bare}
+use Rattle.spec_text.specs.Forms.{Sort, node, step, size, Fields, fieldsIn, recordOf, Slot, place, bound, Form, bare}
 use Rattle.spec_text.specs.Printing.{said, countIn, says}
 use Rattle.spec_text.proofs.WordLaws.{same-refl, same-eq}
 use Rattle.spec_text.proofs.RecordLaws.{record-again}
 use Rattle.text_forms.specs.declared.forms.Form as code
-use Rattle.text_forms.specs.Meant.{slotOf, slotsOf, Means}
-use Rattle.text_forms.specs.Whole.{names, named, whole, fit, saysOf}
-use Rattle.text_forms.proofs.FormLaws.{found, unfound}
+use Rattle.text_forms.specs.Meant.{slotOf, slotsOf}
+use Rattle.text_forms.specs.Whole.{names, named, whole, fit}
 
 -- ---- what the code reads
 
@@ -221,17 +219,3 @@ module _ (f : Form) (bs : Bytes) (small : Small bs) (is : getD bs 0 0 ≡ f .kin
       let e : w ≡ sameBytes r bs =
       both w (sameBytes r bs) (λ h. subst (λ (b : Bytes). T (sameBytes r b)) (whole-same s l h ∙ again) (same-refl r)) (λ h. same-whole s l (same-eq r bs h ∙ sym again)) in
       ap (λ (b : Bool). b && fit (f .slots) (fieldsIn s bs) && leb (countIn s bs) (f .room)) e
-
-module _ (s : Sort) (bs : Bytes) (c : code.Form) (m : Means s (getD bs 0 0) c) where
-  pub says-found : Small bs → length bs ≡ size s → c .known ≡ true
-      → (whole s (slotsOf c) (fieldsIn s bs) && fit (slotsOf c) (fieldsIn s bs) && leb (countIn s bs) (c .room)) ≡ saysOf s (ofKind s (getD bs 0 0)) bs
-  unfolding saysOf
-  says-found small l e =
-      let k = found m e in
-      ap₂ (λ (ps : List Slot) (n : ℕ). whole s ps (fieldsIn s bs) && fit ps (fieldsIn s bs) && leb (countIn s bs) n) (k .slots) (k .room)
-      ∙ says-is (k .form) bs small (k .kind) s l
-      ∙ ap (λ (o : Option Form). saysOf s o bs) (sym (k .is))
-
-  pub says-unfound : c .known ≡ false → false ≡ saysOf s (ofKind s (getD bs 0 0)) bs
-  unfolding saysOf
-  says-unfound e = ap (λ (o : Option Form). saysOf s o bs) (unfound m e)

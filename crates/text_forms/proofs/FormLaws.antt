@@ -1,89 +1,132 @@
--- The code's match on a record's kind against the table of lines.
-use Prim.Native.Nat.{ℕ}
+-- Laws of the table of lines: the code's rows are the definition's, and a form is found place by place.
+use Prim.Native.Nat.{ℕ, _+_, _-_, _≤_, _<_}
+use native.Mathlib.Numerals.{add-one}
 use native.Mathlib.Omega.{arith}
 use mathlib.Core.Path.{_≡_, refl, sym, ap, _∙_, subst}
 use mathlib.Core.Bool.{Bool, true, false, _&&_}
-use mathlib.Core.List.{List, [], _∷_}
+use mathlib.Core.List.{List, [], _∷_, _++_}
 use mathlib.Core.Option.{Option, none, some}
-use lib.Dec.{eqb}
-use lib.ListN.{take}
-use borrow.Author.Tests.{ne-eqb}
-use Rattle.spec_text.specs.Words.{ascii}
-use Rattle.spec_text.specs.Forms.{Sort, node, step, Form, ofKind, firstOf, forms, sameSort}
+use lib.Dec.{eqb, leb, leb→le, eqb→eq}
+use lib.ListN.{length, take, drop, replicate, drop-of-length-le}
+use lib.Seq.{drop-cons}
+use Rattle.actions.proofs.Tests.{of-yes, and-right}
+use Rattle.spec_policy.specs.Lists.{every, listed}
+use Rattle.spec_text.specs.Words.{ascii, space}
+use Rattle.spec_text.specs.Forms.{Sort, node, step, Slot, number, actions, Form, forms, firstOf, sameSort, ofKind}
+use Rattle.text_forms.specs.declared.forms.Sort as sorts
+use Rattle.text_forms.specs.declared.forms.Sort.the-variants.{Node, Step}
+use Rattle.text_forms.specs.declared.forms.Slot as slots
+use Rattle.text_forms.specs.declared.forms.Slot.the-variants.{Number, Actions, Nothing}
 use Rattle.text_forms.specs.declared.forms.Form as code
-use Rattle.text_forms.specs.Meant.{slotsOf, Shape, shaped, held, shapeOf, Means}
+use Rattle.text_forms.specs.Usage.{usages, usage}
+use Rattle.text_forms.specs.Table.{formCount, nodeForms, noForm, headOf, formsFrom, formAt}
+use Rattle.text_forms.specs.Meant.{sortOf, slotOf, slotsOf, Means}
+use Rattle.text_forms.proofs.TableLaws.{same-at, tested-at}
 
--- what the match gives at a kind
-pub arm : {s : Sort} {k n : ℕ} {r q : code.Form} → k ≡ n → r ≡ q → Means s n q → Means s k r
-arm {s} {k} {n} {r} {q} e f h = subst (λ (x : code.Form). Means s k x) (sym f) (subst (λ (x : ℕ). Means s x q) (sym e) h)
+-- ---- the code's rows
 
--- ---- kinds that are none
+unfoldable sortIn : Sort → sorts.Sort
+sortIn node = Node
+sortIn step = Step
 
-Never : (Form → Bool) → List Form → Type 0
-Never p [] = Unit {0}
-Never p (f ∷ fs) = (p f ≡ false) × Never p fs
+unfoldable slotIn : List Slot → slots.Slot
+slotIn [] = Nothing
+slotIn (number i most ∷ ps) = Number i most
+slotIn (actions i ∷ ps) = Actions i
 
-never-found : (p : Form → Bool) (fs : List Form) → Never p fs → firstOf p fs ≡ none
-unfolding Never firstOf
-never-found p [] h = refl
-never-found p (f ∷ fs) h = rw (firstOf, h .0) (never-found p fs (h .1))
+-- the row of the form at a place
+unfoldable pub rowAt : ℕ → code.Form
+unfolding sortIn slotIn
+rowAt i = let f : Form = formAt i in record {
+  usage = take 22 (usage f ++ replicate 22 space);
+  word = length (ascii (f .name));
+  length = length (usage f);
+  sort = sortIn (f .sort);
+  kind = f .kind;
+  room = f .room;
+  first = slotIn (f .slots);
+  second = slotIn (drop 1 (f .slots));
+  third = slotIn (drop 2 (f .slots));
+}
 
-unlike : {k n : ℕ} → (k ≡ n → ⊥) → eqb n k ≡ false
-unlike {k} {n} d = ne-eqb n k (λ e. d (sym e))
+pub row-means : (i : ℕ) → i < formCount → Means (formAt i) (rowAt i)
+unfolding listed every rowAt sortIn slotIn sortOf slotOf slotsOf usages usage ascii formAt noForm forms
+row-means i h = record {
+  word = same-at (λ k. take (rowAt k .word) (rowAt k .usage)) (λ k. ascii (formAt k .name)) formCount refl i h;
+  usage = same-at (λ k. take (rowAt k .length) (rowAt k .usage)) (λ k. usage (formAt k)) formCount refl i h;
+  sort = same-at (λ k. sortOf (rowAt k .sort)) (λ k. formAt k .sort) formCount refl i h;
+  kind = refl;
+  room = refl;
+  slots = same-at (λ k. slotsOf (rowAt k)) (λ k. formAt k .slots) formCount refl i h;
+  wordFits = leb→le (rowAt i .word) (length (rowAt i .usage)) (tested-at (λ k. leb (rowAt k .word) (length (rowAt k .usage))) formCount tt i h);
+  usageFits = leb→le (rowAt i .length) (length (rowAt i .usage)) (tested-at (λ k. leb (rowAt k .length) (length (rowAt k .usage))) formCount tt i h);
+}
 
-module _ (k : ℕ) (a : k ≡ 1 → ⊥) (b : k ≡ 2 → ⊥) (c : k ≡ 3 → ⊥) (d : k ≡ 4 → ⊥) (e : k ≡ 5 → ⊥) (f : k ≡ 6 → ⊥) (g : k ≡ 7 → ⊥) where
-  pub no-node : ofKind node k ≡ none
-  unfolding ofKind forms sameSort Never
-  no-node =
-      never-found (λ x. sameSort (x .sort) node && eqb (x .kind) k) forms
-      (unlike a, (unlike b, (unlike c, (unlike d, (unlike e, (unlike f, (unlike g, (refl, (refl, (refl, (refl, (refl, (refl, (refl, (refl, tt)))))))))))))))
+-- ---- which forms are nodes, and which are steps
 
-  pub no-step : (k ≡ 8 → ⊥) → ofKind step k ≡ none
-  unfolding ofKind forms sameSort Never
-  no-step h =
-      never-found (λ x. sameSort (x .sort) step && eqb (x .kind) k) forms
-      (refl, (refl, (refl, (refl, (refl, (refl, (refl, (unlike a, (unlike b, (unlike c, (unlike d, (unlike e, (unlike f, (unlike g, (unlike h, tt)))))))))))))))
+pub form-node : (form : ℕ) → form < nodeForms → formAt form .sort ≡ node
+unfolding listed formAt noForm forms
+form-node form h = same-at (λ i. formAt i .sort) (λ i. node) nodeForms refl form h
 
--- ---- what is known of a form that the code holds
+pub form-step : (form : ℕ) → nodeForms ≤ form → form < formCount → formAt form .sort ≡ step
+unfolding listed formAt noForm forms
+form-step form l h =
+    let z : nodeForms + (form - nodeForms) ≡ form = omega arith in
+    subst (λ (i : ℕ). formAt i .sort ≡ step) z
+    (same-at (λ i. formAt (nodeForms + i) .sort) (λ i. step) (formCount - nodeForms) refl (form - nodeForms) (omega arith))
 
-pub record Found (s : Sort) (k : ℕ) (c : code.Form) : Type 0 where
-  pub form : Form
-  pub is : ofKind s k ≡ some form
-  pub name : take (c .length) (c .name) ≡ ascii (form .name)
-  pub kind : k ≡ form .kind
-  pub room : c .room ≡ form .room
-  pub slots : slotsOf c ≡ form .slots
+-- ---- the first form that passes a test
 
-module _ {s : Sort} {k : ℕ} {c : code.Form} (m : Means s k c) where
-  pub found : c .known ≡ true → Found s k c
-  unfolding shapeOf shaped held
-  found e = go (ofKind s k) refl
-    where
-      go : (o : Option Form) → ofKind s k ≡ o → Found s k c
-      go none h =
-          let q : shapeOf k c ≡ none = m .is ∙ ap shaped h in
-          let r : some (held k c) ≡ none = rw (shapeOf, e) at q in
-          let z : _≡_ {A = ℕ} 0 1 = cc in absurd (omega arith)
-      go (some f) h =
-          let q : shapeOf k c ≡ shaped (some f) = m .is ∙ ap shaped h in
-          let r : some (held k c) ≡ some (record { name = ascii (f .name); kind = f .kind; room = f .room; slots = f .slots }) = rw (shapeOf, e) at q in
-          let t : held k c ≡ record { name = ascii (f .name); kind = f .kind; room = f .room; slots = f .slots } = cc in
-          record {
-            form = f;
-            is = h;
-            name = ap (λ (x : Shape). x .name) t;
-            kind = ap (λ (x : Shape). x .kind) t;
-            room = ap (λ (x : Shape). x .room) t;
-            slots = ap (λ (x : Shape). x .slots) t;
-          }
+here : (i : ℕ) → i < formCount → drop i forms ≡ formAt i ∷ drop (i + 1) forms
+unfolding forms formAt
+here i h = drop-cons forms i noForm h ∙ ap (λ (n : ℕ). formAt i ∷ drop n forms) (sym (add-one i))
 
-  pub unfound : c .known ≡ false → none ≡ ofKind s k
-  unfolding shapeOf shaped
-  unfound e = go (ofKind s k) refl
-    where
-      go : (o : Option Form) → ofKind s k ≡ o → none ≡ ofKind s k
-      go none h = sym h
-      go (some f) h =
-          let q : shapeOf k c ≡ shaped (some f) = m .is ∙ ap shaped h in
-          let r : none ≡ shaped (some f) = rw (shapeOf, e) at q in
-          let z : _≡_ {A = ℕ} 0 1 = cc in absurd (omega arith)
+pub form-some : (i : ℕ) → i < formCount → formsFrom i ≡ some (formAt i)
+unfolding formsFrom headOf
+form-some i h = ap headOf (here i h)
+
+pub form-none : (i : ℕ) → formCount ≤ i → formsFrom i ≡ none
+unfolding formsFrom headOf forms
+form-none i h = ap headOf (drop-of-length-le forms {i = i} h)
+
+module _ (p : Form → Bool) where
+  -- the forms from place i on are left to be looked at
+  unfoldable pub firstFrom : ℕ → Option Form
+  firstFrom i = firstOf p (drop i forms)
+
+  pub first-all : firstOf p forms ≡ firstFrom 0
+  unfolding firstFrom
+  first-all = refl
+
+  pub first-here : (i : ℕ) → i < formCount → p (formAt i) ≡ true → firstFrom i ≡ formsFrom i
+  unfolding firstFrom firstOf formsFrom headOf
+  first-here i h e = ap (firstOf p) (here i h) ∙ rw (firstOf, e) (sym (form-some i h))
+
+  pub first-later : (i : ℕ) → i < formCount → p (formAt i) ≡ false → firstFrom i ≡ firstFrom (i + 1)
+  unfolding firstFrom firstOf
+  first-later i h e = ap (firstOf p) (here i h) ∙ rw (firstOf, e)
+
+  pub first-none : (i : ℕ) → i ≡ formCount → firstFrom i ≡ formsFrom i
+  unfolding firstFrom firstOf formsFrom headOf forms
+  first-none i e = ap firstFrom e ∙ sym (ap formsFrom e)
+
+-- what was found passes the test
+first-tested : (p : Form → Bool) (fs : List Form) (f : Form) → firstOf p fs ≡ some f → p f ≡ true
+unfolding firstOf
+first-tested p [] f e = let z : _≡_ {A = ℕ} 0 1 = cc in absurd (omega arith)
+first-tested p (g ∷ fs) f e = go (p g) refl (first-tested p fs f)
+  where
+    go : (b : Bool) → p g ≡ b → (firstOf p fs ≡ some f → p f ≡ true) → p f ≡ true
+    go true t r =
+        let h : some g ≡ some f = rw (firstOf, t) at e in
+        let q : g ≡ f = cc in
+        subst (λ (x : Form). p x ≡ true) q t
+    go false t r = r (rw (firstOf, t) at e)
+
+pub kind-found : (s : Sort) (k : ℕ) (f : Form) → ofKind s k ≡ some f → k ≡ f .kind
+unfolding ofKind
+kind-found s k f e =
+    let a = sameSort (f .sort) s in
+    let b = eqb (f .kind) k in
+    let t = of-yes (a && b) (first-tested (λ g. sameSort (g .sort) s && eqb (g .kind) k) forms f e) in
+    sym (eqb→eq (f .kind) k (and-right a b t))

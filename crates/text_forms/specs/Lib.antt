@@ -1,2 +1,4 @@
+pub mod Usage
+pub mod Table
 pub mod Meant
 pub mod Whole

@@ -2,13 +2,10 @@
 use Prim.Native.Nat.{ℕ}
 use mathlib.Core.Bool.{Bool, false, _&&_, _||_}
 use mathlib.Core.List.{List, [], _∷_}
-use mathlib.Core.Option.{Option, none, some}
 use lib.Dec.{eqb, leb}
 use lib.ListN.{getD}
-use Rattle.spec_policy.specs.Bytes.{Bytes}
 use Rattle.spec_policy.specs.Lists.{every}
-use Rattle.spec_text.specs.Forms.{Sort, node, step, Fields, Slot, place, bound, Form}
-use Rattle.spec_text.specs.Printing.{says}
+use Rattle.spec_text.specs.Forms.{Sort, node, step, Fields, Slot, place, bound}
 
 -- the line names the field at a place
 unfoldable pub names : List Slot → ℕ → Bool
@@ -27,8 +24,3 @@ whole step ps xs = named ps xs 1 && named ps xs 2 && named ps xs 3 && named ps x
 
 unfoldable pub fit : List Slot → Fields → Bool
 fit ps xs = every (λ p. leb (getD xs (place p) 0) (bound p)) ps
-
--- there is a line that says it
-unfoldable pub saysOf : Sort → Option Form → Bytes → Bool
-saysOf s none bs = false
-saysOf s (some f) bs = says s f bs

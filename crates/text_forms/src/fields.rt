@@ -1,17 +1,20 @@
 // A record's fields, and whether its line says all of them. A record is a slice of its own.
 ghost use mathlib.Core.Path.{_≡_};
-ghost use Prim.Native.Nat.{_≤_};
+ghost use Prim.Native.Nat.{_≤_, _<_};
 ghost use lib.ListN.{length, getD};
-ghost use Rattle.spec_text.specs.Forms.{node, step, size, fieldsIn, ofKind};
-ghost use Rattle.spec_text.specs.Printing.{countIn};
-ghost use Rattle.text_forms.specs.Meant.{sortOf, slotOf, slotsOf, Means};
-ghost use Rattle.text_forms.specs.Whole.{names, named, whole, fit, saysOf};
+ghost use Rattle.spec_text.specs.Forms.{node, step, size, fieldsIn};
+ghost use Rattle.spec_text.specs.Printing.{countIn, says};
+ghost use Rattle.text_forms.specs.Table.{formCount, formAt};
+ghost use Rattle.text_forms.specs.Meant.{sortOf, slotOf, slotsOf};
+ghost use Rattle.text_forms.specs.Whole.{names, named, whole, fit};
 use crate::forms::Form;
 use crate::forms::Slot;
 use crate::forms::Sort;
+use crate::forms::form_at;
 use file_records::byte;
 use file_records::node_count;
-use file_records::word32;
+use file_records::node_set;
+use file_records::node_start;
 use file_records::word64;
 
 fn node_rest(bytes: &[u8], place: u8) -> u64
@@ -19,8 +22,8 @@ fn node_rest(bytes: &[u8], place: u8) -> u64
     ensures { λ r. ⌜ r ≡ getD (fieldsIn node (now (bytes .entry))) place 0 ⌝ }
 {
     match place {
-        4 => word32(bytes, 4),
-        5 => word64(bytes, 8),
+        4 => node_start(bytes, 0),
+        5 => node_set(bytes, 0).bits,
         _ => 0,
     }
 }
@@ -119,16 +122,12 @@ fn all_fit(bytes: &[u8], sort: Sort, form: Form) -> bool
     fits(bytes, sort, first) & (fits(bytes, sort, second) & fits(bytes, sort, third))
 }
 
-// The line of this form, which is that of the record's kind, says the whole record.
-pub fn says(bytes: &[u8], sort: Sort, form: Form) -> bool
-    requires { ⌜ (length (now bytes) ≡ size (sortOf sort)) × Means (sortOf sort) (getD (now bytes) 0 0) form ⌝ }
-    ensures { λ r. ⌜ r ≡ saysOf (sortOf sort) (ofKind (sortOf sort) (getD (now (bytes .entry)) 0 0)) (now (bytes .entry)) ⌝ }
+// The line of the form at a place, which is that of the record's kind, says the whole record.
+pub fn says(bytes: &[u8], sort: Sort, i: usize) -> bool
+    requires { ⌜ (length (now bytes) ≡ size (sortOf sort)) × (i < formCount) × (getD (now bytes) 0 0 ≡ formAt i .kind) ⌝ }
+    ensures { λ r. ⌜ r ≡ says (sortOf sort) (formAt i) (now (bytes .entry)) ⌝ }
 {
+    let form = form_at(i);
     let room = form.room;
-    if form.known {
-        return is_whole(bytes, sort, form)
-            & all_fit(bytes, sort, form)
-            & (counted(bytes, sort) <= room);
-    }
-    false
+    is_whole(bytes, sort, form) & all_fit(bytes, sort, form) & (counted(bytes, sort) <= room)
 }

@@ -1,8 +1,24 @@
-// The kinds of lines, as the code holds them: by a record's kind, its line's first word and what the line says.
+// The kinds of lines: one table, by which a line is read, a record is printed, and a line that cannot be read is answered.
 ghost use mathlib.Core.Path.{_≡_};
-ghost use mathlib.Core.Bool.{true};
-ghost use Rattle.spec_text.specs.Forms.{node, step};
+ghost use Prim.Native.Nat.{_<_};
+ghost use Rattle.spec_text.specs.Forms.{sameSort, ofKind};
+ghost use Rattle.text_forms.specs.Table.{formCount, formsFrom, formAt};
 ghost use Rattle.text_forms.specs.Meant.{sortOf, Means};
+use file_records::ACASE;
+use file_records::AND;
+use file_records::END;
+use file_records::HALT;
+use file_records::INS;
+use file_records::LEAF;
+use file_records::NEXT;
+use file_records::OK;
+use file_records::OR;
+use file_records::SEQ_AND;
+use file_records::SEQ_OR;
+use file_records::SPEND;
+use file_records::SUP;
+use file_records::TRIVIAL;
+use file_records::UNSATISFIABLE;
 
 pub enum Sort {
     Node,
@@ -16,136 +32,255 @@ pub enum Slot {
     Nothing,
 }
 
-// The first word is the first `length` bytes of the name. `room` is the most steps that the record may count.
+// How long the longest usage is.
+const WIDTH: usize = 22;
+
+// The usage is what is told of a line that is wrong, with spaces behind it up to the width: its first `length` bytes, of which the first
+// `word` are the line's first word. `room` is the most steps that the record may count.
 pub struct Form {
-    pub known: bool,
-    pub name: [u8; 13],
+    pub usage: [u8; WIDTH],
+    pub word: usize,
     pub length: usize,
+    pub sort: Sort,
+    pub kind: u8,
     pub room: u8,
     pub first: Slot,
     pub second: Slot,
     pub third: Slot,
 }
 
-const LEAF: [u8; 13] = *b"leaf         ";
+const MOST_BYTE: u64 = 255;
 
-const TRIVIAL: [u8; 13] = *b"trivial      ";
-
-const UNSATISFIABLE: [u8; 13] = *b"unsatisfiable";
-
-const AND: [u8; 13] = *b"and          ";
-
-const SEQ_AND: [u8; 13] = *b"seq-and      ";
-
-const OR: [u8; 13] = *b"or           ";
-
-const SEQ_OR: [u8; 13] = *b"seq-or       ";
-
-const NEXT: [u8; 13] = *b"next         ";
-
-const OK: [u8; 13] = *b"ok           ";
-
-const SUP: [u8; 13] = *b"sup          ";
-
-const INS: [u8; 13] = *b"ins          ";
-
-const ACASE: [u8; 13] = *b"acase        ";
-
-const SPEND: [u8; 13] = *b"spend        ";
-
-const END: [u8; 13] = *b"end          ";
-
-const HALT: [u8; 13] = *b"halt         ";
+const MOST_WORD: u64 = 4294967295;
 
 const NOTHING: Slot = Slot::Nothing;
 
 const REGULATED: Slot = Slot::Actions(5);
 
-const START: Slot = Slot::Number(4, 4294967295);
+const START: Slot = Slot::Number(4, MOST_WORD);
 
-const LEFT: Slot = Slot::Number(1, 255);
+const LEFT: Slot = Slot::Number(1, MOST_BYTE);
 
-const RIGHT: Slot = Slot::Number(2, 255);
+const RIGHT: Slot = Slot::Number(2, MOST_BYTE);
 
-const ACTION: Slot = Slot::Number(1, 255);
+const ACTION: Slot = Slot::Number(1, MOST_BYTE);
 
-const FIRST: Slot = Slot::Number(2, 255);
+const FIRST: Slot = Slot::Number(2, MOST_BYTE);
 
-const SECOND: Slot = Slot::Number(3, 255);
+const SECOND: Slot = Slot::Number(3, MOST_BYTE);
 
 const OPERAND: Slot = Slot::Actions(4);
 
-const AMOUNT: Slot = Slot::Number(4, 4294967295);
+const AMOUNT: Slot = Slot::Number(4, MOST_WORD);
 
-const UNKNOWN: Form = Form {
-    known: false,
-    name: *b"             ",
-    length: 0,
-    room: 0,
-    first: Slot::Nothing,
-    second: Slot::Nothing,
-    third: Slot::Nothing,
-};
+pub const FORM_COUNT: usize = 15;
 
-fn formed(name: [u8; 13], length: usize, first: Slot, second: Slot, third: Slot) -> Form
-    ensures { λ r. ⌜ r ≡ record { known = true; name = name; length = length; room = 0; first = first; second = second; third = third } ⌝ }
-{
+// The forms of nodes stand before those of steps.
+pub const NODE_FORMS: usize = 7;
+
+const FORMS: [Form; FORM_COUNT] = [
     Form {
-        known: true,
-        name,
-        length,
+        usage: *b"leaf {ACTIONS} START  ",
+        word: 4,
+        length: 20,
+        sort: Sort::Node,
+        kind: LEAF,
+        room: 255,
+        first: REGULATED,
+        second: START,
+        third: NOTHING,
+    },
+    Form {
+        usage: *b"trivial               ",
+        word: 7,
+        length: 7,
+        sort: Sort::Node,
+        kind: TRIVIAL,
         room: 0,
-        first,
-        second,
-        third,
-    }
+        first: NOTHING,
+        second: NOTHING,
+        third: NOTHING,
+    },
+    Form {
+        usage: *b"unsatisfiable         ",
+        word: 13,
+        length: 13,
+        sort: Sort::Node,
+        kind: UNSATISFIABLE,
+        room: 0,
+        first: NOTHING,
+        second: NOTHING,
+        third: NOTHING,
+    },
+    Form {
+        usage: *b"and LEFT RIGHT        ",
+        word: 3,
+        length: 14,
+        sort: Sort::Node,
+        kind: AND,
+        room: 0,
+        first: LEFT,
+        second: RIGHT,
+        third: NOTHING,
+    },
+    Form {
+        usage: *b"seq-and LEFT RIGHT    ",
+        word: 7,
+        length: 18,
+        sort: Sort::Node,
+        kind: SEQ_AND,
+        room: 0,
+        first: LEFT,
+        second: RIGHT,
+        third: NOTHING,
+    },
+    Form {
+        usage: *b"or LEFT RIGHT         ",
+        word: 2,
+        length: 13,
+        sort: Sort::Node,
+        kind: OR,
+        room: 0,
+        first: LEFT,
+        second: RIGHT,
+        third: NOTHING,
+    },
+    Form {
+        usage: *b"seq-or LEFT RIGHT     ",
+        word: 6,
+        length: 17,
+        sort: Sort::Node,
+        kind: SEQ_OR,
+        room: 0,
+        first: LEFT,
+        second: RIGHT,
+        third: NOTHING,
+    },
+    Form {
+        usage: *b"next TAKE DONE        ",
+        word: 4,
+        length: 14,
+        sort: Sort::Step,
+        kind: NEXT,
+        room: 0,
+        first: FIRST,
+        second: SECOND,
+        third: NOTHING,
+    },
+    Form {
+        usage: *b"ok TO                 ",
+        word: 2,
+        length: 5,
+        sort: Sort::Step,
+        kind: OK,
+        room: 0,
+        first: FIRST,
+        second: NOTHING,
+        third: NOTHING,
+    },
+    Form {
+        usage: *b"sup TO                ",
+        word: 3,
+        length: 6,
+        sort: Sort::Step,
+        kind: SUP,
+        room: 0,
+        first: FIRST,
+        second: NOTHING,
+        third: NOTHING,
+    },
+    Form {
+        usage: *b"ins ACTION TO         ",
+        word: 3,
+        length: 13,
+        sort: Sort::Step,
+        kind: INS,
+        room: 0,
+        first: ACTION,
+        second: FIRST,
+        third: NOTHING,
+    },
+    Form {
+        usage: *b"acase {ACTIONS} YES NO",
+        word: 5,
+        length: 22,
+        sort: Sort::Step,
+        kind: ACASE,
+        room: 0,
+        first: OPERAND,
+        second: FIRST,
+        third: SECOND,
+    },
+    Form {
+        usage: *b"spend AMOUNT YES NO   ",
+        word: 5,
+        length: 19,
+        sort: Sort::Step,
+        kind: SPEND,
+        room: 0,
+        first: AMOUNT,
+        second: FIRST,
+        third: SECOND,
+    },
+    Form {
+        usage: *b"end                   ",
+        word: 3,
+        length: 3,
+        sort: Sort::Step,
+        kind: END,
+        room: 0,
+        first: NOTHING,
+        second: NOTHING,
+        third: NOTHING,
+    },
+    Form {
+        usage: *b"halt                  ",
+        word: 4,
+        length: 4,
+        sort: Sort::Step,
+        kind: HALT,
+        room: 0,
+        first: NOTHING,
+        second: NOTHING,
+        third: NOTHING,
+    },
+];
+
+// The form at a place of the table.
+pub fn form_at(i: usize) -> Form
+    requires { ⌜ i < formCount ⌝ }
+    ensures { λ r. ⌜ Means (formAt i) r ⌝ }
+{
+    FORMS[i]
 }
 
-fn node_form(kind: u8) -> Form
-    ensures { λ r. ⌜ Means node kind r ⌝ }
+fn same_sort(a: Sort, b: Sort) -> bool
+    ensures { λ r. ⌜ r ≡ sameSort (sortOf a) (sortOf b) ⌝ }
 {
-    match kind {
-        1 => Form {
-            known: true,
-            name: LEAF,
-            length: 4,
-            room: 255,
-            first: REGULATED,
-            second: START,
-            third: NOTHING,
+    match a {
+        Sort::Node => match b {
+            Sort::Node => true,
+            Sort::Step => false,
         },
-        2 => formed(TRIVIAL, 7, NOTHING, NOTHING, NOTHING),
-        3 => formed(UNSATISFIABLE, 13, NOTHING, NOTHING, NOTHING),
-        4 => formed(AND, 3, LEFT, RIGHT, NOTHING),
-        5 => formed(SEQ_AND, 7, LEFT, RIGHT, NOTHING),
-        6 => formed(OR, 2, LEFT, RIGHT, NOTHING),
-        7 => formed(SEQ_OR, 6, LEFT, RIGHT, NOTHING),
-        _ => UNKNOWN,
+        Sort::Step => match b {
+            Sort::Node => false,
+            Sort::Step => true,
+        },
     }
 }
 
-fn step_form(kind: u8) -> Form
-    ensures { λ r. ⌜ Means step kind r ⌝ }
+// The form of records of the kind, by its place; past the last if there is none.
+pub fn form_of(sort: Sort, kind: u8) -> usize
+    ensures { λ r. ⌜ ofKind (sortOf sort) kind ≡ formsFrom r ⌝ }
 {
-    match kind {
-        1 => formed(NEXT, 4, FIRST, SECOND, NOTHING),
-        2 => formed(OK, 2, FIRST, NOTHING, NOTHING),
-        3 => formed(SUP, 3, FIRST, NOTHING, NOTHING),
-        4 => formed(INS, 3, ACTION, FIRST, NOTHING),
-        5 => formed(ACASE, 5, OPERAND, FIRST, SECOND),
-        6 => formed(SPEND, 5, AMOUNT, FIRST, SECOND),
-        7 => formed(END, 3, NOTHING, NOTHING, NOTHING),
-        8 => formed(HALT, 4, NOTHING, NOTHING, NOTHING),
-        _ => UNKNOWN,
+    let mut i = 0;
+    while i < FORM_COUNT {
+        let form = form_at(i);
+        let its = form.sort;
+        if same_sort(its, sort) & (form.kind == kind) {
+            return i;
+        }
+        i += 1;
     }
-}
-
-// The form of records of the kind.
-pub fn form_of(sort: Sort, kind: u8) -> Form
-    ensures { λ r. ⌜ Means (sortOf sort) kind r ⌝ }
-{
-    match sort {
-        Sort::Node => node_form(kind),
-        Sort::Step => step_form(kind),
-    }
+    i
 }

@@ -1,71 +1,35 @@
 // A line of a policy's text, read as a record's fields.
 ghost use mathlib.Core.Path.{_≡_};
 ghost use Prim.Native.Nat.{_≤_, _<_};
-ghost use lib.ListN.{length, getD, drop};
-ghost use lib.Seq.{slice};
+ghost use lib.Dec.{T};
+ghost use lib.ListN.{length, drop};
+ghost use Rattle.spec_policy.specs.Lists.{every};
 ghost use Rattle.spec_text.specs.Words.{sameBytes, words};
-ghost use Rattle.spec_text.specs.Forms.{named, place, bare};
-ghost use Rattle.spec_text.specs.Reading.{taken, filled, lineOf};
-ghost use Rattle.text_words.specs.Scanned.{Takes};
-ghost use Rattle.text_line.specs.Tables.{formCount, formsFrom, nameText, nameEnd, kindAt, formAt, slotsAt, slotRow, slotOf, filledOf, lineMeant};
+ghost use Rattle.spec_text.specs.Forms.{named, bare};
+ghost use Rattle.spec_text.specs.Reading.{filled, lineOf};
+ghost use Rattle.text_forms.specs.Table.{formCount, formsFrom, formAt};
+ghost use Rattle.text_forms.specs.Meant.{slotOf};
+ghost use Rattle.text_line.specs.Lines.{fitting, putInto, Sound, Fills, filledOf, lineMeant};
+use text_forms::forms::FORM_COUNT;
+use text_forms::forms::Slot;
+use text_forms::forms::form_at;
 use text_words::Taken;
 use text_words::next_word;
 use text_words::number;
 use text_words::set;
 
-// The table of lines: the first words one after another, and where each ends; what each says, by place in the record. A place from 1 to 3
-// is a byte's, 4 a number's of four bytes, and 10 more a set's.
-const NAMES: [u8; 71] = *b"leaftrivialunsatisfiableandseq-andorseq-ornextoksupinsacasespendendhalt";
-
-const ENDS: [usize; 16] = [0, 4, 11, 24, 27, 34, 36, 42, 46, 48, 51, 54, 59, 64, 67, 71];
-
-const KINDS: [u64; 15] = [1, 2, 3, 4, 5, 6, 7, 1, 2, 3, 4, 5, 6, 7, 8];
-
-const COUNTS: [usize; 15] = [2, 0, 0, 2, 2, 2, 2, 2, 1, 1, 2, 3, 3, 0, 0];
-
-const SLOTS: [[u8; 3]; 15] = [
-    [15, 4, 0],
-    [0, 0, 0],
-    [0, 0, 0],
-    [1, 2, 0],
-    [1, 2, 0],
-    [1, 2, 0],
-    [1, 2, 0],
-    [2, 3, 0],
-    [2, 0, 0],
-    [2, 0, 0],
-    [1, 2, 0],
-    [14, 2, 3],
-    [4, 2, 3],
-    [0, 0, 0],
-    [0, 0, 0],
-];
-
-fn names() -> [u8; 71]
-    ensures { λ r. ⌜ r ≡ nameText ⌝ }
-{
-    NAMES
-}
-
-// Where the name of the form before this one ends.
-fn name_end(i: usize) -> usize
-    requires { ⌜ i ≤ formCount ⌝ }
-    ensures { λ r. ⌜ r ≡ nameEnd i ⌝ }
-{
-    ENDS[i]
-}
+// ---- its first word
 
 // Two runs of bytes are the same.
-fn same(a: &[u8], from: usize, to: usize, b: &[u8], start: usize, end: usize) -> bool
-    requires { ⌜ (from ≤ to) × (to ≤ length (now a)) × (start ≤ end) × (end ≤ length (now b)) ⌝ }
-    ensures { λ r. ⌜ r ≡ sameBytes (slice from to (now (a .entry))) (slice start end (now (b .entry))) ⌝ }
+fn same(a: &[u8], b: &[u8]) -> bool
+    ensures { λ r. ⌜ r ≡ sameBytes (now (a .entry)) (now (b .entry)) ⌝ }
 {
-    if to - from != end - start {
+    if a.len() != b.len() {
         return false;
     }
     let mut j = 0;
-    while j < to - from {
-        if a[from + j] != b[start + j] {
+    while j < a.len() {
+        if a[j] != b[j] {
             return false;
         }
         j += 1;
@@ -74,14 +38,15 @@ fn same(a: &[u8], from: usize, to: usize, b: &[u8], start: usize, end: usize) ->
 }
 
 // The form of a line that begins with this word, by its place in the table; past the last if there is none.
-pub fn form_of(line: &[u8], start: usize, end: usize) -> usize
-    requires { ⌜ (start ≤ end) × (end ≤ length (now line)) ⌝ }
-    ensures { λ r. ⌜ named (slice start end (now (line .entry))) ≡ formsFrom r ⌝ }
+pub fn form_of(word: &[u8]) -> usize
+    ensures { λ r. ⌜ named (now (word .entry)) ≡ formsFrom r ⌝ }
 {
-    let table = names();
     let mut i = 0;
-    while i < 15 {
-        if same(&table, name_end(i), name_end(i + 1), line, start, end) {
+    while i < FORM_COUNT {
+        let form = form_at(i);
+        let usage = form.usage;
+        let n = form.word;
+        if same(&usage[..n], word) {
             return i;
         }
         i += 1;
@@ -89,100 +54,87 @@ pub fn form_of(line: &[u8], start: usize, end: usize) -> usize
     i
 }
 
-fn kind(form: usize) -> u64
-    requires { ⌜ form < formCount ⌝ }
-    ensures { λ r. ⌜ r ≡ kindAt form ⌝ }
-{
-    KINDS[form]
-}
+// ---- what it says
 
-fn count(form: usize) -> usize
-    requires { ⌜ form < formCount ⌝ }
-    ensures { λ r. ⌜ r ≡ length (slotsAt form) ⌝ }
-{
-    COUNTS[form]
-}
-
-fn slot(form: usize, j: usize) -> u8
-    requires { ⌜ (form < formCount) × (j < 3) ⌝ }
-    ensures { λ r. ⌜ r ≡ getD (slotRow form) j 0 ⌝ }
-{
-    SLOTS[form][j]
-}
-
-// ---- what a line says
-
-fn wide(x: u8) -> usize
-    ensures { λ r. ⌜ r ≡ x ⌝ }
-{
-    x as usize
-}
-
-// The field that a slot says.
-fn place_of(code: u8) -> usize
-    ensures { λ r. ⌜ r ≡ place (slotOf code) ⌝ }
-{
-    if code >= 10 {
-        return wide(code - 10);
-    }
-    wide(code)
-}
-
-// What a slot takes from the words.
-fn taken(line: &[u8], at: usize, code: u8) -> Taken
-    requires { ⌜ at ≤ length (now line) ⌝ }
-    ensures { λ r. ⌜ Takes (now (line .entry)) r (taken (slotOf code) (words (drop at (now (line .entry))))) ⌝ }
-{
-    if code >= 10 {
-        return set(line, at);
-    }
-    if code == 4 {
-        return number(line, at, 4294967295);
-    }
-    number(line, at, 255)
-}
-
+// The fields that a line's words say, as far as they were read; where the rest of them begins; and whether they fit so far.
 pub struct Filled {
     pub fields: [u64; 6],
+    pub at: usize,
     pub fits: bool,
+}
+
+// Puts what was taken from the words into the field at a place.
+fn put(begun: Filled, place: u8, taken: Taken) -> Filled
+    requires { ⌜ (length (begun .fields) ≡ 6) × (place < 6) ⌝ }
+    ensures { λ r. ⌜ r ≡ putInto begun place taken ⌝ }
+{
+    let mut fields = begun.fields;
+    let Taken::Took(v, end) = taken else {
+        return Filled {
+            fields,
+            at: begun.at,
+            fits: false,
+        };
+    };
+    fields[place as usize] = v;
+    Filled {
+        fields,
+        at: end,
+        fits: begun.fits,
+    }
+}
+
+// Reads what one slot says.
+fn fill_slot(line: &[u8], begun: Filled, slot: Slot) -> Filled
+    requires { ⌜ Sound (now line) begun × T (every fitting (slotOf slot)) ⌝ }
+    ensures { λ r. ⌜ Fills (now (line .entry)) begun (slotOf slot) r ⌝ }
+{
+    let at = begun.at;
+    match slot {
+        Slot::Number(i, most) => put(begun, i, number(line, at, most)),
+        Slot::Actions(i) => put(begun, i, set(line, at)),
+        Slot::Nothing => begun,
+    }
 }
 
 // The fields that the words from `at` on say, if they say each once and no more.
 fn fill(line: &[u8], at: usize, form: usize) -> Filled
     requires { ⌜ (at ≤ length (now line)) × (form < formCount) ⌝ }
-    ensures { λ r. ⌜ filledOf (r .fields) (r .fits) ≡ filled (slotsAt form) (words (drop at (now (line .entry)))) (bare (formAt form)) ⌝ }
+    ensures { λ r. ⌜ filledOf (r .fields) (r .fits) ≡ filled (formAt form .slots) (words (drop at (now (line .entry)))) (bare (formAt form)) ⌝ }
 {
-    let mut fields = [0u64; 6];
-    fields[0] = kind(form);
-    let mut i = at;
-    let mut j = 0;
-    while j < count(form) {
-        let code = slot(form, j);
-        let Taken::Took(v, end) = taken(line, i, code) else {
-            return Filled {
-                fields,
-                fits: false,
-            };
-        };
-        let p = place_of(code);
-        fields[p] = v;
-        i = end;
-        j += 1;
+    let row = form_at(form);
+    let first = row.first;
+    let second = row.second;
+    let third = row.third;
+    let fields = [row.kind as u64, 0, 0, 0, 0, 0];
+    let none = Filled {
+        fields,
+        at,
+        fits: true,
+    };
+    let one = fill_slot(line, none, first);
+    let two = fill_slot(line, one, second);
+    let all = fill_slot(line, two, third);
+    let w = next_word(line, all.at);
+    let said = all.fields;
+    Filled {
+        fields: said,
+        at: w.end,
+        fits: all.fits & (w.start == w.end),
     }
-    let w = next_word(line, i);
-    let none = w.start == w.end;
-    Filled { fields, fits: none }
 }
 
-// What a line is read as: its form by place, 15 for nothing and 16 for what cannot be read; and its fields.
+// ---- the line
+
+// What a line is read as: its form by place, past the last for nothing and for what cannot be read; and its fields.
 pub struct Line {
     pub form: usize,
     pub fields: [u64; 6],
 }
 
-const NOTHING: usize = 15;
+pub const NOTHING: usize = FORM_COUNT;
 
-const UNREADABLE: usize = 16;
+const UNREADABLE: usize = FORM_COUNT + 1;
 
 pub fn read_line(line: &[u8]) -> Line
     ensures { λ r. ⌜ lineOf (words (now (line .entry))) ≡ lineMeant (r .form) (r .fields) ⌝ }
@@ -197,8 +149,8 @@ pub fn read_line(line: &[u8]) -> Line
             fields: bare,
         };
     }
-    let form = form_of(line, start, end);
-    if form >= 15 {
+    let form = form_of(&line[start..end]);
+    if form >= FORM_COUNT {
         return Line {
             form: UNREADABLE,
             fields: bare,

@@ -11,7 +11,7 @@ use lib.Seq.{drop-drop, take-all}
 use borrow.Author.Tests.{ltb-true, ltb-false}
 use Rattle.actions.proofs.Tests.{no-of}
 use Rattle.spec_policy.specs.Bytes.{Bytes}
-use Rattle.spec_text.specs.Words.{sameBytes}
+use Rattle.spec_text.specs.Words.{sameBytes, newline}
 use Rattle.spec_text.specs.Forms.{Sort, node, step, size, Fields, fieldsIn, recordOf, Slot, place, Form, ofKind, bare}
 use Rattle.spec_text.specs.Printing.{Print, text, noText, both, arguments, argument, lineText, said, countIn, says, printedIf, recordText, stepsText, nodesText}
 use Rattle.spec_text.proofs.WordLaws.{same-eq}
@@ -20,11 +20,9 @@ use Rattle.text_forms.specs.declared.forms.Form as code
 use Rattle.text_lines.specs.declared.Place.{Place}
 use Rattle.text_lines.specs.declared.Place.the-variants.{Ends, NoText}
 use Rattle.text_append.specs.Added.{Added}
-use Rattle.text_forms.specs.Meant.{slotOf, slotsOf, Means}
-use Rattle.text_forms.specs.Whole.{saysOf}
-use Rattle.text_lines.specs.Laid.{lineAs, laid, Laid}
+use Rattle.text_forms.specs.Meant.{slotOf, slotsOf}
+use Rattle.text_lines.specs.Laid.{laid, Laid}
 use Rattle.text_append.proofs.AddedLaws.{joined}
-use Rattle.text_forms.proofs.FormLaws.{found, unfound}
 
 -- ---- what a line says
 
@@ -66,30 +64,19 @@ laid-as {p} {q} {before} {after} {at} {r} h e = subst (λ (x : Print). Laid x be
 
 -- ---- a record's line
 
-module _ (s : Sort) (i : ℕ) (bs : Bytes) (c : code.Form) (m : Means s (getD bs 0 0) c) where
-  pub record-told : saysOf s (ofKind s (getD bs 0 0)) bs ≡ true → text (lineAs s (take (c .length) (c .name)) (slotsOf c) (fieldsIn s bs) i) ≡ recordText s i bs
-  unfolding saysOf recordText printedIf lineAs lineText
-  record-told e = go (c .known) refl
-    where
-      go : (b : Bool) → c .known ≡ b → text (lineAs s (take (c .length) (c .name)) (slotsOf c) (fieldsIn s bs) i) ≡ recordText s i bs
-      go false h =
-          let z : false ≡ true = ap (λ (o : Option Form). saysOf s o bs) (unfound m h) ∙ e in
-          let y : _≡_ {A = ℕ} 0 1 = cc in absurd (omega arith)
-      go true h =
-          let k = found m h in
-          let y : says s (k .form) bs ≡ true = ap (λ (o : Option Form). saysOf s o bs) (sym (k .is)) ∙ e in
-          ap₂ (λ (n : Bytes) (ps : List Slot). text (lineAs s n ps (fieldsIn s bs) i)) (k .name) (k .slots)
-          ∙ rw (recordText, k .is, y)
+module _ (s : Sort) (i : ℕ) (bs : Bytes) where
+  pub record-unknown : ofKind s (getD bs 0 0) ≡ none → noText ≡ recordText s i bs
+  unfolding recordText
+  record-unknown h = rw (recordText, h)
 
-pub record-untold : (s : Sort) (i : ℕ) (bs : Bytes) → saysOf s (ofKind s (getD bs 0 0)) bs ≡ false → noText ≡ recordText s i bs
-unfolding saysOf recordText printedIf
-record-untold s i bs e = go (ofKind s (getD bs 0 0)) refl
-  where
-    go : (o : Option Form) → ofKind s (getD bs 0 0) ≡ o → noText ≡ recordText s i bs
-    go none h = rw (recordText, h)
-    go (some f) h =
-        let y : says s f bs ≡ false = ap (λ (o : Option Form). saysOf s o bs) (sym h) ∙ e in
-        rw (recordText, h, y)
+  module _ (f : Form) (h : ofKind s (getD bs 0 0) ≡ some f) where
+    pub record-told : says s f bs ≡ true → text (lineText s f (fieldsIn s bs) i ++ (newline ∷ [])) ≡ recordText s i bs
+    unfolding recordText printedIf
+    record-told e = rw (recordText, h, e)
+
+    pub record-untold : says s f bs ≡ false → noText ≡ recordText s i bs
+    unfolding recordText printedIf
+    record-untold e = rw (recordText, h, e)
 
 -- ---- texts one after another
 
@@ -128,15 +115,15 @@ steps-over count j ss h = let a : count - j ≡ 0 = omega arith in ap (λ (k : �
 -- ---- records that are not all there
 
 record-short : (s : Sort) (i : ℕ) (bs : Bytes) → length bs < size s → noText ≡ recordText s i bs
-unfolding saysOf says
-record-short s i bs h = record-untold s i bs (go (ofKind s (getD bs 0 0)))
+unfolding says
+record-short s i bs h = go (ofKind s (getD bs 0 0)) refl
   where
-    go : (o : Option Form) → saysOf s o bs ≡ false
-    go none = refl
-    go (some f) =
+    go : (o : Option Form) → ofKind s (getD bs 0 0) ≡ o → noText ≡ recordText s i bs
+    go none q = record-unknown s i bs q
+    go (some f) q =
         let r = recordOf s (countIn s bs) (said (f .slots) (fieldsIn s bs) (bare f)) in
         let e : sameBytes r bs ≡ false = no-of (sameBytes r bs) (λ t. omega (arith, ap length (same-eq r bs t), record-size s (countIn s bs) (said (f .slots) (fieldsIn s bs) (bare f)))) in
-        rw e refl
+        record-untold s i bs f q (rw e refl)
 
 pub both-none : (p : Print) → both p noText ≡ noText
 unfolding both

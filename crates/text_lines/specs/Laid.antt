@@ -1,18 +1,10 @@
 -- Lines in a lent buffer, of records that may have none.
 use Prim.Native.Nat.{ℕ}
-use mathlib.Core.List.{List, [], _∷_, _++_}
 use Rattle.spec_policy.specs.Bytes.{Bytes}
-use Rattle.spec_text.specs.Words.{newline}
-use Rattle.spec_text.specs.Numerals.{decimal}
-use Rattle.spec_text.specs.Forms.{Sort, Fields, Slot}
-use Rattle.spec_text.specs.Printing.{Print, text, noText, arguments, indent, remark}
+use Rattle.spec_text.specs.Printing.{Print, text, noText}
 use Rattle.text_lines.specs.declared.Place.{Place}
 use Rattle.text_lines.specs.declared.Place.the-variants.{Ends, NoText}
 use Rattle.text_append.specs.Added.{Added}
-
--- a record's line, by its first word and what it says
-unfoldable pub lineAs : Sort → Bytes → List Slot → Fields → ℕ → Bytes
-lineAs s name ps xs i = (indent s ++ (name ++ (arguments ps xs ++ (remark s ++ decimal i)))) ++ (newline ∷ [])
 
 -- The text stands in the buffer from place `at` on, if there is room for it, and r says where it ends; or r says that there is none.
 unfoldable pub laid : Print → Bytes → ℕ → Bytes → Place → Type 0

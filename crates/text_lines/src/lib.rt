@@ -1,13 +1,19 @@
 // Records printed as lines, each after the one before it.
 ghost use mathlib.Core.Path.{_≡_};
-ghost use Prim.Native.Nat.{_*_, _≤_};
-ghost use lib.ListN.{length, take};
+ghost use mathlib.Core.List.{[], _∷_, _++_};
+ghost use Prim.Native.Nat.{_*_, _≤_, _<_};
+ghost use lib.ListN.{length};
+ghost use Rattle.spec_policy.specs.Records.{stepSize};
+ghost use Rattle.spec_text.specs.Words.{newline};
 ghost use Rattle.spec_text.specs.Forms.{node, size, fieldsIn};
-ghost use Rattle.spec_text.specs.Printing.{both, arguments, indent, remark, countIn, recordText, stepsText, printed};
+ghost use Rattle.spec_text.specs.Printing.{both, arguments, indent, remark, lineText, countIn, recordText, stepsText, printed};
 ghost use Rattle.text_append.specs.Added.{Added};
+ghost use Rattle.text_forms.specs.Table.{formCount, formAt};
 ghost use Rattle.text_forms.specs.Meant.{sortOf, slotOf, slotsOf};
-ghost use Rattle.text_lines.specs.Laid.{lineAs, Laid};
+ghost use Rattle.text_lines.specs.Laid.{Laid};
 use actions::ActionSet;
+use file_records::NODE_SIZE;
+use file_records::STEP_SIZE;
 use file_records::byte;
 use text_append::append;
 use text_append::append_number;
@@ -15,9 +21,11 @@ use text_append::append_set;
 use text_forms::fields::counted;
 use text_forms::fields::field;
 use text_forms::fields::says;
+use text_forms::forms::FORM_COUNT;
 use text_forms::forms::Form;
 use text_forms::forms::Slot;
 use text_forms::forms::Sort;
+use text_forms::forms::form_at;
 use text_forms::forms::form_of;
 
 // Where a text ends, if there is one.
@@ -75,15 +83,20 @@ fn mark(out: &mut [u8], at: usize, sort: Sort) -> usize
     }
 }
 
-fn line(out: &mut [u8], at: usize, bytes: &[u8], sort: Sort, form: Form, i: usize) -> usize
-    requires { ⌜ (length (now bytes) ≡ size (sortOf sort)) × (form .length ≤ length (form .name)) ⌝ }
-    ensures { λ r. ⌜ Added (now (out .entry)) at (lineAs (sortOf sort) (take (form .length) (form .name)) (slotsOf form) (fieldsIn (sortOf sort) (now (bytes .entry))) i) (now (out .exit)) r ⌝ }
+// A record's line, by the form at a place.
+fn line(out: &mut [u8], at: usize, bytes: &[u8], sort: Sort, form: usize, i: usize) -> usize
+    requires { ⌜ (length (now bytes) ≡ size (sortOf sort)) × (form < formCount) ⌝ }
+    ensures { λ r. ⌜
+        Added (now (out .entry)) at
+        (lineText (sortOf sort) (formAt form) (fieldsIn (sortOf sort) (now (bytes .entry))) i ++ (newline ∷ [])) (now (out .exit)) r
+        ⌝ }
 {
-    let name = form.name;
-    let length = form.length;
+    let row = form_at(form);
+    let usage = row.usage;
+    let length = row.word;
     let begun = begin(out, at, sort);
-    let named = append(out, begun, &name[..length]);
-    let said = all_arguments(out, named, bytes, sort, form);
+    let named = append(out, begun, &usage[..length]);
+    let said = all_arguments(out, named, bytes, sort, row);
     let marked = mark(out, said, sort);
     let end = append_number(out, marked, i as u64);
     append(out, end, b"\n")
@@ -95,6 +108,9 @@ fn record_line(out: &mut [u8], at: usize, bytes: &[u8], sort: Sort, i: usize) ->
     ensures { λ r. ⌜ Laid (recordText (sortOf sort) i (now (bytes .entry))) (now (out .entry)) at (now (out .exit)) r ⌝ }
 {
     let form = form_of(sort, byte(bytes, 0));
+    if form >= FORM_COUNT {
+        return Place::NoText;
+    }
     if says(bytes, sort, form) {
         return Place::Ends(line(out, at, bytes, sort, form, i));
     }
@@ -103,14 +119,14 @@ fn record_line(out: &mut [u8], at: usize, bytes: &[u8], sort: Sort, i: usize) ->
 
 // The lines of a leaf's steps, the first `count` of those given.
 fn step_lines(out: &mut [u8], at: usize, steps: &[u8], count: usize) -> Place
-    requires { ⌜ 12 * count ≤ length (now steps) ⌝ }
+    requires { ⌜ stepSize * count ≤ length (now steps) ⌝ }
     ensures { λ r. ⌜ Laid (stepsText count 0 (now (steps .entry))) (now (out .entry)) at (now (out .exit)) r ⌝ }
 {
     let mut end = at;
     let mut j = 0;
     while j < count {
-        let from = 12 * j;
-        let place = record_line(out, end, &steps[from..from + 12], Sort::Step, j);
+        let from = STEP_SIZE * j;
+        let place = record_line(out, end, &steps[from..from + STEP_SIZE], Sort::Step, j);
         let Place::Ends(next) = place else {
             return Place::NoText;
         };
@@ -122,8 +138,11 @@ fn step_lines(out: &mut [u8], at: usize, steps: &[u8], count: usize) -> Place
 
 // A node's line, and those of its steps.
 fn node_lines(out: &mut [u8], at: usize, bytes: &[u8], steps: &[u8], i: usize) -> Place
-    requires { ⌜ (length (now bytes) ≡ size node) × (12 * countIn node (now bytes) ≤ length (now steps)) ⌝ }
-    ensures { λ r. ⌜ Laid (both (recordText node i (now (bytes .entry))) (stepsText (countIn node (now (bytes .entry))) 0 (now (steps .entry)))) (now (out .entry)) at (now (out .exit)) r ⌝ }
+    requires { ⌜ (length (now bytes) ≡ size node) × (stepSize * countIn node (now bytes) ≤ length (now steps)) ⌝ }
+    ensures { λ r. ⌜
+        Laid (both (recordText node i (now (bytes .entry))) (stepsText (countIn node (now (bytes .entry))) 0 (now (steps .entry))))
+        (now (out .entry)) at (now (out .exit)) r
+        ⌝ }
 {
     let place = record_line(out, at, bytes, Sort::Node, i);
     let Place::Ends(end) = place else {
@@ -136,14 +155,14 @@ fn node_lines(out: &mut [u8], at: usize, bytes: &[u8], steps: &[u8], i: usize) -
 pub fn all_lines(out: &mut [u8], nodes: &[u8], steps: &[u8]) -> Place
     ensures { λ r. ⌜ Laid (printed (now (nodes .entry)) (now (steps .entry))) (now (out .entry)) 0 (now (out .exit)) r ⌝ }
 {
-    let count = nodes.len() / 16;
+    let count = nodes.len() / NODE_SIZE;
     let mut end = 0;
     let mut first = 0;
     let mut i = 0;
     while i < count {
-        let from = 16 * i;
-        let node = &nodes[from..from + 16];
-        let length = 12 * counted(node, Sort::Node) as usize;
+        let from = NODE_SIZE * i;
+        let node = &nodes[from..from + NODE_SIZE];
+        let length = STEP_SIZE * counted(node, Sort::Node) as usize;
         if steps.len() - first < length {
             return Place::NoText;
         }
@@ -155,7 +174,7 @@ pub fn all_lines(out: &mut [u8], nodes: &[u8], steps: &[u8]) -> Place
         first += length;
         i += 1;
     }
-    if 16 * count < nodes.len() {
+    if NODE_SIZE * count < nodes.len() {
         return Place::NoText;
     }
     if first < steps.len() {

@@ -2,37 +2,26 @@
 use Prim.Native.Nat.{ℕ, suc, _+_, _-_, _≤_, _<_}
 use native.Mathlib.Numerals.{add-one}
 use native.Mathlib.Omega.{arith}
-use mathlib.Core.Path.{_≡_, refl, sym, ap, ap₂, _∙_, subst}
+use mathlib.Core.Path.{_≡_, refl, sym, ap, ap₂, _∙_}
 use mathlib.Core.Bool.{true, false}
 use mathlib.Core.List.{_∷_}
-use borrow.Author.Tests.{lt-ltb, le-ltb, eq-eqb, ne-eqb}
+use borrow.Author.Tests.{lt-ltb, le-ltb}
+use lib.Dec.{eqb}
 use lib.ListN.{length, drop, drop-of-length-le}
 use Rattle.actions.proofs.Tests.{true-not-false}
 use Rattle.spec_policy.specs.Bytes.{Bytes, spell}
-use Rattle.spec_policy.specs.Lists.{listed}
 use Rattle.spec_policy.specs.Parts
-use Rattle.spec_text.specs.Forms.{node, step, size, Fields, recordOf, forms}
+use Rattle.spec_text.specs.Forms.{size, Fields, recordOf}
 use Rattle.spec_text.specs.Reading.{Line, entry, Found, found, wrong, withNode, withStep, readFrom, answer, lineOf, readLines, readText}
 use Rattle.spec_text.specs.Words.{lines, linesFrom, words, wordsFrom, ended}
-use Rattle.text_line.specs.Tables.{formCount, noForm, formAt, lineMeant}
-use Rattle.text_line.proofs.TableLaws.{table-at}
+use Rattle.text_forms.specs.Table.{formCount, nodeForms, formAt}
+use Rattle.text_forms.proofs.FormLaws.{form-node, form-step}
+use Rattle.text_line.specs.Lines.{lineMeant}
 use Rattle.text_measure.specs.Measures.{Sizes, sized, wrongAt, sizesRead, sizesFound, plus, ReadsOn, Counted}
 use Rattle.text_measure.proofs.LineLaws.{nothing-more, read-on}
 use Rattle.text_measure.specs.declared.Tally.{Tally}
 
--- ---- which forms are nodes, and which are steps
-
-pub form-node : (form : ℕ) → form < 7 → formAt form .sort ≡ node
-unfolding listed formAt noForm forms
-form-node form h = sym (table-at (λ i. formAt i .sort) 7 (listed (λ i. node) 0 7) refl node form h) ∙ table-at (λ i. node) 7 (listed (λ i. node) 0 7) refl node form h
-
-pub form-step : (form : ℕ) → 7 ≤ form → form < formCount → formAt form .sort ≡ step
-unfolding listed formAt noForm forms
-form-step form l h =
-    let z : 7 + (form - 7) ≡ form = omega arith in
-    let k : form - 7 < 8 = omega arith in
-    subst (λ (i : ℕ). formAt i .sort ≡ step) z
-    (sym (table-at (λ i. formAt (7 + i) .sort) 8 (listed (λ i. step) 0 8) refl step (form - 7) k) ∙ table-at (λ i. step) 8 (listed (λ i. step) 0 8) refl step (form - 7) k)
+-- ---- a line that is a record
 
 pub meant-entry : (form : ℕ) (xs : Fields) → form < formCount → lineMeant form xs ≡ entry (formAt form) xs
 unfolding lineMeant
@@ -58,7 +47,7 @@ plus-plus a b c d (wrongAt n) = refl
 -- ---- a line of each kind
 
 module _ (form : ℕ) (t : Tally) where
-  pub counted-node : (room : ℕ) → form < 7 → room ≡ formAt form .room → Counted form t (record { nodes = t .nodes + 1; steps = t .steps; room = room; good = true })
+  pub counted-node : (room : ℕ) → form < nodeForms → room ≡ formAt form .room → Counted form t (record { nodes = t .nodes + 1; steps = t .steps; room = room; good = true })
   unfolding readFrom
   counted-node room h e = record {
     nodes = omega arith;
@@ -72,25 +61,17 @@ module _ (form : ℕ) (t : Tally) where
     stops = λ g. true-not-false refl g;
   }
 
-  pub counted-bad : 15 < form → Counted form t (record { nodes = t .nodes; steps = t .steps; room = t .room; good = false })
+  -- nothing, or what cannot be read
+  pub counted-none : formCount ≤ form → Counted form t (record { nodes = t .nodes; steps = t .steps; room = t .room; good = eqb form formCount })
   unfolding lineMeant readFrom sizesFound sizesRead answer
-  counted-bad h = record {
+  counted-none h = record {
     nodes = omega arith;
     steps = omega arith;
-    goes = λ g. true-not-false g refl;
-    stops = λ g xs n ls. rw (lineMeant, le-ltb form formCount (omega arith), ne-eqb form formCount (λ e. omega arith));
+    goes = λ g xs n ls. rw (lineMeant, le-ltb form formCount h, g);
+    stops = λ g xs n ls. rw (lineMeant, le-ltb form formCount h, g);
   }
 
-  pub counted-nothing : form ≡ 15 → Counted form t (record { nodes = t .nodes; steps = t .steps; room = t .room; good = true })
-  unfolding lineMeant readFrom
-  counted-nothing e = record {
-    nodes = omega arith;
-    steps = omega arith;
-    goes = λ g xs n ls. rw (lineMeant, le-ltb form formCount (omega arith), eq-eqb form formCount e);
-    stops = λ g. true-not-false refl g;
-  }
-
-  module _ (low : 7 ≤ form) (high : form < formCount) where
+  module _ (low : nodeForms ≤ form) (high : form < formCount) where
     pub counted-astray : t .room ≡ 0 → Counted form t (record { nodes = t .nodes; steps = t .steps; room = t .room; good = false })
     unfolding readFrom sizesFound sizesRead answer
     counted-astray z = record {

@@ -5,13 +5,13 @@ use mathlib.Core.Path.{_≡_, refl, sym, ap, _∙_}
 use mathlib.Core.List.{List, [], _∷_, map}
 use borrow.Author.Tests.{eq-eqb, ne-eqb}
 use lib.ListN.{length, getD, take, drop, drop-of-length-le}
-use lib.Seq.{slice, slice-empty, take-nil}
+use lib.Seq.{slice, slice-empty}
 use Rattle.spec_policy.specs.Bytes.{Bytes}
 use Rattle.spec_text.specs.Words.{newline, linesFrom, lines, words, wordsFrom, ended}
 use Rattle.spec_text.specs.Forms.{Sort, node, step, Fields}
 use Rattle.spec_text.specs.Reading.{Line, nothing, unreadable, entry, lineOf, readLines, readFrom}
-use Rattle.text_words.proofs.ScanLaws.{from-here, slice-more}
-use Rattle.text_line.specs.Tables.{lineMeant}
+use Rattle.text_words.proofs.ScanLaws.{from-here, slice-more, part-slice}
+use Rattle.text_line.specs.Lines.{lineMeant}
 use Rattle.text_measure.specs.Measures.{LineEnds, Follows, more, last, ReadsOn}
 
 module _ (text : Bytes) where
@@ -38,14 +38,6 @@ module _ (text : Bytes) where
     pub last-line : length text ≤ end → lines (drop at text) ≡ slice at end text ∷ []
     unfolding linesFrom
     last-line h = e .same ∙ ap (linesFrom (slice at end text)) (drop-of-length-le text {i = end} h)
-
--- a part cut out from the front, and from the back
-pub part-slice : (l : Bytes) (a e : ℕ) → a ≤ e → slice a e l ≡ take (e - a) (drop a l)
-part-slice l zero e h = let z : e ≡ e - 0 = omega arith in ap (λ (n : ℕ). take n l) z
-part-slice [] (suc a) zero h = absurd (omega arith)
-part-slice [] (suc a) (suc e) h = sym (take-nil (suc e - suc a))
-part-slice (x ∷ l) (suc a) zero h = absurd (omega arith)
-part-slice (x ∷ l) (suc a) (suc e) h = let z : e - a ≡ suc e - suc a = omega arith in part-slice l a e (omega arith) ∙ ap (λ (n : ℕ). take n (drop a l)) z
 
 -- an empty line after the last says nothing
 pub nothing-more : (l : Line) (room n : ℕ) → readFrom room n (l ∷ []) ≡ readFrom room n (l ∷ nothing ∷ [])

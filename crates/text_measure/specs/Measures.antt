@@ -9,7 +9,7 @@ use Rattle.spec_policy.specs.Bytes.{Bytes}
 use Rattle.spec_text.specs.Words.{newline, linesFrom, lines}
 use Rattle.spec_text.specs.Forms.{node, step, size, Fields}
 use Rattle.spec_text.specs.Reading.{Line, lineOf, readLines, Found, readFrom, Read, records, badLine, answer}
-use Rattle.text_line.specs.Tables.{lineMeant}
+use Rattle.text_line.specs.Lines.{lineMeant}
 use Rattle.text_measure.specs.declared.Tally.{Tally}
 use Rattle.text_measure.specs.declared.Outcome.{Outcome}
 use Rattle.text_measure.specs.declared.Outcome.the-variants.{Records, BadLine}

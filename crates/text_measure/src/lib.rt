@@ -1,14 +1,18 @@
 // A policy's text line by line: how many records it has, or the first line that cannot be read.
 ghost use mathlib.Core.Path.{_≡_};
-ghost use Prim.Native.Nat.{_≤_, _<_};
+ghost use Prim.Native.Nat.{ℕ, _≤_, _<_};
 ghost use lib.ListN.{length};
 ghost use Rattle.spec_text.specs.Reading.{readText};
-ghost use Rattle.text_line.specs.Tables.{formAt};
+ghost use Rattle.text_forms.specs.Table.{formCount, nodeForms, formAt};
 ghost use Rattle.text_measure.specs.Measures.{LineEnds, ReadsOn, Counted, sizesRead, measured};
+use text_forms::forms::FORM_COUNT;
+use text_forms::forms::NODE_FORMS;
+use text_forms::forms::form_at;
 use text_line::Line;
+use text_line::NOTHING;
 use text_line::read_line;
 
-pub const NEWLINE: u8 = 10;
+pub const NEWLINE: u8 = b'\n';
 
 // Where the line that begins at `at` ends.
 pub fn line_end(text: &[u8], at: usize) -> usize
@@ -48,14 +52,13 @@ pub fn line_at(text: &[u8], at: usize) -> At
 
 // ---- how many records there are
 
-const ROOMS: [usize; 7] = [255, 0, 0, 0, 0, 0, 0];
-
-// How many steps may follow a node's line.
-fn room_after(form: usize) -> usize
-    requires { ⌜ form < 7 ⌝ }
+// How many steps may follow a line of this form, if it is a node's.
+pub fn room_after(form: usize) -> usize
+    requires { ⌜ form < formCount ⌝ }
     ensures { λ r. ⌜ r ≡ formAt form .room ⌝ }
 {
-    ROOMS[form]
+    let row = form_at(form);
+    row.room as usize
 }
 
 // How many records were read, how many more steps may follow, and whether the last line may stand where it does.
@@ -66,35 +69,11 @@ pub struct Tally {
     pub good: bool,
 }
 
-// The tally after a line of this form.
-pub fn counted(form: usize, t: Tally) -> Tally
-    requires { ⌜ (t .nodes < 18446744073709551615) × (t .steps < 18446744073709551615) ⌝ }
-    ensures { λ r. ⌜ Counted form t r ⌝ }
+// The tally after a step: where none may follow, it cannot stand.
+fn stepped(t: Tally) -> Tally
+    requires { ⌜ t .steps < 18446744073709551615 ⌝ }
+    ensures { λ r. ⌜ ((form : ℕ) → nodeForms ≤ form → form < formCount → Counted form t r) ⌝ }
 {
-    if form < 7 {
-        return Tally {
-            nodes: t.nodes + 1,
-            steps: t.steps,
-            room: room_after(form),
-            good: true,
-        };
-    }
-    if form > 15 {
-        return Tally {
-            nodes: t.nodes,
-            steps: t.steps,
-            room: t.room,
-            good: false,
-        };
-    }
-    if form == 15 {
-        return Tally {
-            nodes: t.nodes,
-            steps: t.steps,
-            room: t.room,
-            good: true,
-        };
-    }
     if t.room == 0 {
         return Tally {
             nodes: t.nodes,
@@ -108,6 +87,30 @@ pub fn counted(form: usize, t: Tally) -> Tally
         steps: t.steps + 1,
         room: t.room - 1,
         good: true,
+    }
+}
+
+// The tally after a line of this form.
+fn counted(form: usize, t: Tally) -> Tally
+    requires { ⌜ (t .nodes < 18446744073709551615) × (t .steps < 18446744073709551615) ⌝ }
+    ensures { λ r. ⌜ Counted form t r ⌝ }
+{
+    if form < NODE_FORMS {
+        return Tally {
+            nodes: t.nodes + 1,
+            steps: t.steps,
+            room: room_after(form),
+            good: true,
+        };
+    }
+    if form < FORM_COUNT {
+        return stepped(t);
+    }
+    Tally {
+        nodes: t.nodes,
+        steps: t.steps,
+        room: t.room,
+        good: form == NOTHING,
     }
 }
 

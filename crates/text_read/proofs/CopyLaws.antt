@@ -13,9 +13,11 @@ use Rattle.spec_policy.proofs.ByteLaws.{put-length}
 use Rattle.spec_text.specs.Forms.{Sort, node, step, size, Fields, Form, recordOf, forms}
 use Rattle.spec_text.specs.Reading.{Line, nothing, unreadable, entry, found, wrong, readFrom}
 use Rattle.spec_text.proofs.RecordLaws.{record-size}
-use Rattle.text_line.specs.Tables.{formCount, noForm, formAt, lineMeant}
-use Rattle.text_line.proofs.TableLaws.{tested-at}
-use Rattle.text_measure.proofs.CountLaws.{form-node, form-step, meant-entry}
+use Rattle.text_forms.specs.Table.{formCount, nodeForms, noForm, formAt}
+use Rattle.text_forms.proofs.TableLaws.{tested-at}
+use Rattle.text_forms.proofs.FormLaws.{form-node, form-step}
+use Rattle.text_line.specs.Lines.{lineMeant}
+use Rattle.text_measure.proofs.CountLaws.{meant-entry}
 use Rattle.text_read.specs.Written.{leadIn, written, Roomy, Copied}
 use Rattle.text_read.proofs.WrittenLaws.{NodeBefore, node-before, StepBefore, step-before, lead-is}
 
@@ -37,10 +39,10 @@ lead-few (entry f xs ∷ ls) room n k ns ss e = go (f .sort) refl room e (λ r. 
 
 few-room : (form : ℕ) → form < formCount → formAt form .room ≤ 255
 unfolding listed every formAt noForm forms
-few-room form h = leb→le (formAt form .room) 255 (tested-at (λ i. leb (formAt i .room) 255) 15 tt form h)
+few-room form h = leb→le (formAt form .room) 255 (tested-at (λ i. leb (formAt i .room) 255) formCount tt form h)
 
 module _ (form : ℕ) (xs : Fields) (ls : List Line) (i j : ℕ) (N S : Bytes) (r : Roomy (lineMeant form xs ∷ ls) i j N S) where
-  module _ (h : form < 7) where
+  module _ (h : form < nodeForms) where
     f : Form
     f = formAt form
 
@@ -82,7 +84,7 @@ module _ (form : ℕ) (xs : Fields) (ls : List Line) (i j : ℕ) (N S : Bytes) (
       };
     }
 
-  module _ (low : 7 ≤ form) (h : form < formCount) where
+  module _ (low : nodeForms ≤ form) (h : form < formCount) where
     -- a step may stand there, so some room was left
     step-read : (room : ℕ) → readFrom room (r .number) (entry (formAt form) xs ∷ ls) ≡ found (r .lead) (r .nodes) (r .steps) → room ≤ 255
         → (m : ℕ) × (m ≤ 255) × StepBefore xs (readFrom m (suc (r .number)) ls) (r .lead) (r .nodes) (r .steps)

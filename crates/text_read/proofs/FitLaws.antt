@@ -16,8 +16,9 @@ use Rattle.spec_text.specs.Numerals.{numeral}
 use Rattle.spec_text.specs.Forms.{Fields, Slot, number, actions, place, bound, Form, forms, named, bare}
 use Rattle.spec_text.specs.Reading.{Taken, took, untaken, tookIf, taken, filled, unreadable, entry, entryIf, lineOf}
 use Rattle.text_words.proofs.TakenLaws.{numeral-bound}
-use Rattle.text_line.specs.Tables.{formCount, noForm, formAt, lineMeant}
-use Rattle.text_line.proofs.TableLaws.{tested-at}
+use Rattle.text_forms.specs.Table.{formCount, noForm, formAt}
+use Rattle.text_forms.proofs.TableLaws.{tested-at}
+use Rattle.text_line.specs.Lines.{lineMeant}
 
 -- the first four fields are bytes
 abbrev pub BytesFit : Fields → Type 0
@@ -79,7 +80,7 @@ bare-fits f h (suc (suc (suc (suc i)))) l = absurd (omega arith)
 
 form-fits : (form : ℕ) → form < formCount → T (formFits (formAt form))
 unfolding formFits slotFits listed every place bound formAt noForm forms
-form-fits form h = tested-at (λ i. formFits (formAt i)) 15 tt form h
+form-fits form h = tested-at (λ i. formFits (formAt i)) formCount tt form h
 
 module _ (form : ℕ) (fields : Fields) (h : form < formCount) where
   read-fits : (f : Form) (us : List Bytes) (o : Option Fields) → filled (f .slots) us (bare f) ≡ o → entryIf f o ≡ entry (formAt form) fields → BytesFit fields

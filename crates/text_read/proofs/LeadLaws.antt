@@ -10,10 +10,12 @@ use Rattle.spec_policy.specs.Bytes.{Bytes}
 use Rattle.spec_text.specs.Words.{lines, linesFrom, words, wordsFrom, ended}
 use Rattle.spec_text.specs.Forms.{Sort, node, step, Fields}
 use Rattle.spec_text.specs.Reading.{Line, nothing, unreadable, entry, lineOf, readLines}
-use Rattle.text_line.specs.Tables.{formCount, lineMeant}
+use Rattle.text_forms.specs.Table.{formCount, nodeForms}
+use Rattle.text_forms.proofs.FormLaws.{form-node, form-step}
+use Rattle.text_line.specs.Lines.{lineMeant}
 use Rattle.text_measure.specs.Measures.{ReadsOn}
 use Rattle.text_measure.proofs.LineLaws.{read-on}
-use Rattle.text_measure.proofs.CountLaws.{form-node, form-step, meant-entry}
+use Rattle.text_measure.proofs.CountLaws.{meant-entry}
 use Rattle.text_read.specs.Written.{leadIn}
 
 -- an empty line after the last adds none
@@ -28,19 +30,19 @@ lead-last (entry f xs) = go (f .sort) refl
     go step e = rw (e, leadIn)
 
 module _ (form : ℕ) (xs : Fields) (ls : List Line) where
-  pub lead-node : form < 7 → leadIn (lineMeant form xs ∷ ls) ≡ 0
+  pub lead-node : form < nodeForms → leadIn (lineMeant form xs ∷ ls) ≡ 0
   unfolding leadIn
   lead-node h = ap (λ (l : Line). leadIn (l ∷ ls)) (meant-entry form xs (omega arith)) ∙ rw (form-node form h, leadIn)
 
-  pub lead-bad : 15 < form → leadIn (lineMeant form xs ∷ ls) ≡ 0
+  pub lead-bad : formCount < form → leadIn (lineMeant form xs ∷ ls) ≡ 0
   unfolding leadIn lineMeant
   lead-bad h = rw (lineMeant, le-ltb form formCount (omega arith), ne-eqb form formCount (λ e. omega arith))
 
-  pub lead-step : 7 ≤ form → form < formCount → leadIn (lineMeant form xs ∷ ls) ≡ 1 + leadIn ls
+  pub lead-step : nodeForms ≤ form → form < formCount → leadIn (lineMeant form xs ∷ ls) ≡ 1 + leadIn ls
   unfolding leadIn
   lead-step l h = ap (λ (x : Line). leadIn (x ∷ ls)) (meant-entry form xs h) ∙ rw (form-step form l h, leadIn) (sym (one-add (leadIn ls)))
 
-  pub lead-nothing : form ≡ 15 → leadIn (lineMeant form xs ∷ ls) ≡ 0 + leadIn ls
+  pub lead-nothing : form ≡ formCount → leadIn (lineMeant form xs ∷ ls) ≡ 0 + leadIn ls
   unfolding leadIn lineMeant
   lead-nothing e = rw (lineMeant, le-ltb form formCount (omega arith), eq-eqb form formCount e) (omega arith)
 

@@ -13,7 +13,7 @@ use Rattle.spec_text.specs.Forms.{Sort, node, step, size, Fields, recordOf}
 use Rattle.spec_text.specs.Reading.{records, Line, nothing, unreadable, entry, lineOf, readLines, Found, found, wrong, readFrom, answer, readText}
 use Rattle.spec_text.specs.Reading as text
 use Rattle.spec_text.proofs.RecordLaws.{record-size}
-use Rattle.text_line.specs.Tables.{lineMeant}
+use Rattle.text_line.specs.Lines.{lineMeant}
 use Rattle.text_measure.specs.Measures.{ReadsOn, sized, wrongAt, sizesRead}
 use Rattle.text_measure.proofs.LineLaws.{nothing-more, read-on}
 use Rattle.text_read.specs.Written.{leadIn, Buffers, buffers, written, Roomy, Ready}

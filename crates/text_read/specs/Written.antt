@@ -6,7 +6,8 @@ use lib.ListN.{length, getD, drop}
 use Rattle.spec_policy.specs.Bytes.{Bytes, put}
 use Rattle.spec_text.specs.Forms.{node, step, size, Fields, recordOf}
 use Rattle.spec_text.specs.Reading.{Line, nothing, unreadable, entry, readLines, found, readFrom}
-use Rattle.text_line.specs.Tables.{formCount, lineMeant}
+use Rattle.text_forms.specs.Table.{formCount}
+use Rattle.text_line.specs.Lines.{lineMeant}
 
 -- how many steps stand before the first node
 unfoldable pub leadIn : List Line → ℕ

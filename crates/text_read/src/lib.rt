@@ -5,12 +5,16 @@ ghost use Prim.Native.Nat.{_+_, _≤_};
 ghost use lib.ListN.{length, getD, drop};
 ghost use Rattle.spec_text.specs.Forms.{node, step, Fields, recordOf};
 ghost use Rattle.spec_text.specs.Reading.{Line, readLines, readText};
-ghost use Rattle.text_line.specs.Tables.{lineMeant};
+ghost use Rattle.text_forms.specs.Table.{formCount, nodeForms};
+ghost use Rattle.text_line.specs.Lines.{lineMeant};
 ghost use Rattle.spec_policy.specs.Bytes.{put};
 ghost use Rattle.text_read.specs.Written.{leadIn, written, Roomy, Ready, Copied, buffers};
 ghost use Rattle.text_read.specs.Transcribed.{transcribed, gave};
 use file_records::NODE_SIZE;
 use file_records::STEP_SIZE;
+use text_forms::forms::FORM_COUNT;
+use text_forms::forms::NODE_FORMS;
+use text_line::NOTHING;
 use text_measure::Outcome;
 use text_measure::line_at;
 use text_measure::measure;
@@ -66,10 +70,10 @@ fn step_bytes(f: [u64; 6]) -> [u8; STEP_SIZE]
 
 // What a line that is no node adds to the steps before the next node.
 fn step_of(form: usize) -> usize
-    requires { ⌜ (7 ≤ form) × (form ≤ 15) ⌝ }
+    requires { ⌜ (nodeForms ≤ form) × (form ≤ formCount) ⌝ }
     ensures { λ r. ⌜ ((xs : Fields) (ls : List Line) → leadIn (lineMeant form xs ∷ ls) ≡ r + leadIn ls) × (r ≤ 1) ⌝ }
 {
-    if form < 15 {
+    if form < FORM_COUNT {
         return 1;
     }
     0
@@ -86,10 +90,10 @@ fn lead(text: &[u8], at: usize) -> usize
         let read = line_at(text, i);
         let line = read.line;
         let form = line.form;
-        if form < 7 {
+        if form < NODE_FORMS {
             return count;
         }
-        if form > 15 {
+        if form > NOTHING {
             return count;
         }
         count += step_of(form);
@@ -126,11 +130,14 @@ fn copy_line(
     p: Places,
 ) -> Places
     requires { ⌜ Ready (now text) next (line .form) (line .fields) (p .nodes) (p .steps) (now nodes) (now steps) ⌝ }
-    ensures { λ r. ⌜ Copied (lineMeant (line .form) (line .fields)) (readLines (drop next (now (text .entry)))) (p .nodes) (p .steps) (now (nodes .entry)) (now (steps .entry)) (r .nodes) (r .steps) (now (nodes .exit)) (now (steps .exit)) ⌝ }
+    ensures { λ r. ⌜
+        Copied (lineMeant (line .form) (line .fields)) (readLines (drop next (now (text .entry))))
+        (p .nodes) (p .steps) (now (nodes .entry)) (now (steps .entry)) (r .nodes) (r .steps) (now (nodes .exit)) (now (steps .exit))
+        ⌝ }
 {
     let form = line.form;
     let fields = line.fields;
-    if form < 7 {
+    if form < NODE_FORMS {
         let record = node_bytes(fields, lead(text, next) as u64);
         store(nodes, NODE_SIZE * p.nodes, &record);
         return Places {
@@ -138,7 +145,7 @@ fn copy_line(
             steps: p.steps,
         };
     }
-    if form < 15 {
+    if form < FORM_COUNT {
         let record = step_bytes(fields);
         store(steps, STEP_SIZE * p.steps, &record);
         return Places {
@@ -152,7 +159,10 @@ fn copy_line(
 // Puts the records of all lines into the buffers.
 fn copy(text: &[u8], nodes: &mut [u8], steps: &mut [u8])
     requires { ⌜ Roomy (readLines (now text)) 0 0 (now nodes) (now steps) ⌝ }
-    ensures { λ _. ⌜ written (readLines (now (text .entry))) 0 0 (now (nodes .entry)) (now (steps .entry)) ≡ buffers (now (nodes .exit)) (now (steps .exit)) ⌝ }
+    ensures { λ _. ⌜
+        written (readLines (now (text .entry))) 0 0 (now (nodes .entry)) (now (steps .entry))
+        ≡ buffers (now (nodes .exit)) (now (steps .exit))
+        ⌝ }
 {
     let mut p = Places { nodes: 0, steps: 0 };
     let mut at = 0;
@@ -176,7 +186,10 @@ pub enum Answer {
 
 // Reads the text into node and step records. Where it cannot, nothing is written.
 pub fn read(text: &[u8], nodes: &mut [u8], steps: &mut [u8]) -> Answer
-    ensures { λ r. ⌜ transcribed (readText (now (text .entry))) (now (nodes .entry)) (now (steps .entry)) ≡ gave r (now (nodes .exit)) (now (steps .exit)) ⌝ }
+    ensures { λ r. ⌜
+        transcribed (readText (now (text .entry))) (now (nodes .entry)) (now (steps .entry))
+        ≡ gave r (now (nodes .exit)) (now (steps .exit))
+        ⌝ }
 {
     let found = measure(text);
     match found {

@@ -1,5 +1,5 @@
 -- Laws of a line's words by places: blanks passed over, letters gathered, the word that they make.
-use Prim.Native.Nat.{ℕ, _+_, _≤_, _<_}
+use Prim.Native.Nat.{ℕ, zero, suc, _+_, _-_, _≤_, _<_}
 use native.Mathlib.Numerals.{add-one}
 use native.Mathlib.Omega.{arith}
 use mathlib.Core.Path.{_≡_, refl, sym, ap, _∙_, subst}
@@ -9,7 +9,7 @@ use borrow.Author.Tests.{lt-ltb, le-ltb, ltb-true, ltb-false, ne-eqb}
 use lib.Arith.{lt-of-le-ne}
 use lib.Dec.{ltb}
 use lib.ListN.{length, getD, take, drop, drop-of-length-le}
-use lib.Seq.{slice, slice-empty, length-slice, drop-cons, take-suc, length-take-le, drop-append-le}
+use lib.Seq.{slice, slice-empty, length-slice, drop-cons, take-nil, take-suc, length-take-le, drop-append-le}
 use Rattle.spec_policy.specs.Bytes.{Bytes}
 use Rattle.spec_text.specs.Words.{Mark, blank, brace, hash, letter, mark, ended, wordsFrom, words}
 use Rattle.text_words.specs.Scanned.{markNumber, Skipped, Lettered, wordAnd, Next}
@@ -36,6 +36,14 @@ mark-letter b p q r s t u = rw (mark, ne-eqb b 32 r, ne-eqb b 9 p, ne-eqb b 13 q
 -- a byte that was told
 pub mark-of : {b k : ℕ} → b ≡ k → markNumber (mark k) ≡ markNumber (mark b)
 mark-of e = ap (λ (x : ℕ). markNumber (mark x)) (sym e)
+
+-- a part cut out from the front, and from the back
+pub part-slice : (l : Bytes) (a e : ℕ) → a ≤ e → slice a e l ≡ take (e - a) (drop a l)
+part-slice l zero e h = let z : e ≡ e - 0 = omega arith in ap (λ (n : ℕ). take n l) z
+part-slice [] (suc a) zero h = absurd (omega arith)
+part-slice [] (suc a) (suc e) h = sym (take-nil (suc e - suc a))
+part-slice (x ∷ l) (suc a) zero h = absurd (omega arith)
+part-slice (x ∷ l) (suc a) (suc e) h = let z : e - a ≡ suc e - suc a = omega arith in part-slice l a e (omega arith) ∙ ap (λ (n : ℕ). take n (drop a l)) z
 
 -- ---- a word that no letter goes on
 

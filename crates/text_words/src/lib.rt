@@ -25,12 +25,12 @@ fn mark(b: u8) -> u8
     ensures { λ r. ⌜ r ≡ markNumber (mark b) ⌝ }
 {
     match b {
-        9 => BLANK,
-        13 => BLANK,
-        32 => BLANK,
-        123 => BRACE,
-        125 => BRACE,
-        35 => HASH,
+        b'\t' => BLANK,
+        b'\r' => BLANK,
+        b' ' => BLANK,
+        b'{' => BRACE,
+        b'}' => BRACE,
+        b'#' => HASH,
         _ => LETTER,
     }
 }
@@ -115,13 +115,13 @@ pub fn numeral(line: &[u8], start: usize, end: usize, most: u64) -> Value
     let mut i = start;
     while i < end {
         let b = line[i];
-        if b < 48 {
+        if b < b'0' {
             return Value::Nothing;
         }
-        if b > 57 {
+        if b > b'9' {
             return Value::Nothing;
         }
-        n = n * 10 + wide(b - 48);
+        n = n * 10 + wide(b - b'0');
         if n > most {
             return Value::Nothing;
         }
@@ -180,7 +180,7 @@ fn members(line: &[u8], at: usize) -> Taken
         if start == end {
             return Taken::Nothing;
         }
-        if is_byte(line, start, end, 125) {
+        if is_byte(line, start, end, b'}') {
             return Taken::Took(set.bits, end);
         }
         let Value::Number(a) = numeral(line, start, end, 63) else {
@@ -203,7 +203,7 @@ pub fn set(line: &[u8], at: usize) -> Taken
     if start == end {
         return Taken::Nothing;
     }
-    if is_byte(line, start, end, 123) {
+    if is_byte(line, start, end, b'{') {
         return members(line, end);
     }
     Taken::Nothing
