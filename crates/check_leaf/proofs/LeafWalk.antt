@@ -4,14 +4,14 @@ use Prim.Native.Nat.{ℕ, zero, suc, _+_, _*_, _-_, _≤_, _<_}
 use native.Mathlib.Omega.{arith}
 use mathlib.Core.Path.{_≡_, refl, sym, ap, ap₂, _∙_, subst}
 use mathlib.Core.Bool.{Bool, true, false, _&&_, _||_}
-use mathlib.Core.List.{List, [], _∷_}
-use mathlib.Core.Logic.{⊎-elim}
-use lib.Dec.{T, ltb}
+use mathlib.Core.List.{List, [], _∷_, List·Memᴰ, List·Memᴰ·not-nil, List·Memᴰ·cases-cons}
+use mathlib.Core.Logic.{_⊎_, inl, inr, ⊎-elim}
+use lib.Dec.{T, eqb, ltb, ltb→lt}
 use lib.ListN.{length, getD, take, replicate, List·getD-eq-default}
 use lib.Seq.{getD-take}
 use borrow.Author.Tests.{lt-ltb, le-ltb}
 use Rattle.actions.specs.Sets.{ActionSet, has, EMPTY, union}
-use Rattle.actions.proofs.Tests.{of-yes, and-assoc, and-true}
+use Rattle.actions.proofs.Tests.{of-yes, and-left, and-right, or-cases, or-false-left, or-false-right, and-assoc, and-true}
 use Rattle.spec_policy.specs.Bytes.{Bytes}
 use Rattle.spec_policy.specs.Lists.{one, listed, every, everyAt}
 use Rattle.spec_policy.specs.Records.{stepRecordAt}
@@ -22,15 +22,15 @@ use Rattle.file_records.specs.Code.{codeAt}
 use Rattle.file_records.proofs.CodeLaws.{code-length, code-at}
 use Rattle.spec_check.specs.Targets.{targetFits, asksWithin, targetsFit}
 use Rattle.spec_check.specs.Layout.{stepFits}
-use Rattle.spec_check.specs.Modes.{Mode, Mark, marked, walked, marks, modeFits, modesFit, stepped}
+use Rattle.spec_check.specs.Modes.{Mode, idle, pending, closing, Mark, marked, walked, marks, modeFits, modesFit, stepped}
 use Rattle.spec_check.specs.Possible.{passOn, passedOn, possible, branchesTaken, allTaken}
 use Rattle.spec_check.specs.Interference.{stepEffects, codeEffects, leafEffects}
 use Rattle.spec_check.specs.Spread.{insCount}
 use Rattle.spec_check.proofs.Ahead.{in-or-out, Suffix}
 use Rattle.check_targets.proofs.TargetLaws.{fitFrom, fit-whole, fit-rest, fit-over, test-inside}
 use Rattle.check_modes.specs.Table.{reaching}
-use Rattle.check_modes.specs.Marks.{Agrees, NextsBefore, NextsAre, othersFit, nextsFit}
-use Rattle.check_modes.proofs.Final.{walked-elsewhere, fits-by, modes-parts}
+use Rattle.check_modes.specs.Marks.{word, Agrees, Aside, onceAt, allOnce, NextsBefore, NextsAre, othersFit, nextsFit}
+use Rattle.check_modes.proofs.Final.{walked-elsewhere, fits-by, modes-parts, once-nexts, not-all-once, once-asked}
 use Rattle.check_possible.proofs.PossibleLaws.{pass-length, pass-take, passed-elsewhere, branches-alone, effects-by}
 use Rattle.actions.proofs.SetLaws.{has-empty, union-assoc, union-none, union-end}
 use Rattle.check_layout.specs.Fits.{stepsFit}
@@ -43,6 +43,17 @@ use Rattle.check_leaf.specs.Leaf.{Begun}
 unless-next : (n x y : Bool) → (n ≡ false → x ≡ y) → (n || x) ≡ (n || y)
 unless-next true x y e = refl
 unless-next false x y e = e refl
+
+and-false : (a : Bool) → (a && false) ≡ false
+and-false true = refl
+and-false false = refl
+
+every-mem : (f : ℕ → Bool) (xs : List ℕ) → T (every f xs) → (x : ℕ) → List·Memᴰ x xs → T (f x)
+unfolding every
+every-mem f [] h x d = absurd (List·Memᴰ·not-nil d)
+every-mem f (y ∷ ys) h x d =
+    ⊎-elim (λ (e : x ≡ y). subst (λ (n : ℕ). T (f n)) (sym e) (and-left (f y) (every f ys) h))
+    (λ u. every-mem f ys (and-right (f y) (every f ys) h) x u) (List·Memᴰ·cases-cons d)
 
 pub one-small : (b : Bool) → one b ≤ 1
 unfolding one
@@ -97,37 +108,55 @@ module _ (file : Bytes) (at count : ℕ) where
     abbrev effectsFrom : ℕ → ActionSet
     effectsFrom o = codeEffects (possible r code) o (rest o)
 
+    -- So far every step but the nexts is reached in one mode: the words say the marks, and rule 7 is found as far as the walk is.
+    pub record Going (o : ℕ) (w : Walk) (ks : List Mark) : Type 0 where
+      pub once : (p : ℕ) → p < o → isNext (getD code p halt) ≡ false → T (onceAt (w .marks) p (getD code p halt))
+      pub agrees : Agrees (w .marks) ks
+      pub others : T (targetsFit r code) → othersFit code ≡ (w .modes && othersFrom o)
+
+    -- A step is not: that breaks rule 7, and the words will still say it at the end.
+    pub record Lost (o : ℕ) (w : Walk) : Type 0 where
+      pub place : ℕ
+      pub before : place < o
+      pub other : isNext (getD code place halt) ≡ false
+      pub unsettled : onceAt (w .marks) place (getD code place halt) ≡ false
+      pub others : T (targetsFit r code) → othersFit code ≡ false
+
     -- what is found when the walk stands at o
     pub record Walking (o : ℕ) (w : Walk) (sets : List ActionSet) : Type 0 where
       pub below : o ≤ count
+      pub short : count ≤ 64
       pub stepRecords : Left stepFits (λ k. stepRecordAt file (at + 12 * k)) count o
       pub fit : targetsFit r code ≡ fitFrom r file at count o
       pub ks : List Mark
-      pub agrees : T (w .modes) → Agrees (w .marks) ks
+      pub settled : Going o w ks ⊎ Lost o w
       pub walk : marks code ≡ walked o (rest o) ks
       pub nexts : NextsBefore o (w .nexts) code
       pub room : length sets ≡ 64
       pub pass : possible r code ≡ passedOn r o (rest o) (take count sets)
-      pub others : T (targetsFit r code) → othersFit code ≡ (w .modes && othersFrom o)
       pub branches : T (targetsFit r code) → allTaken r code ≡ (w .taken && takenFrom o)
       pub affects : T (targetsFit r code) → leafEffects r code ≡ union (w .effects .bits) (effectsFrom o)
       pub few : w .inserts ≤ o
       pub ins : insCount code ≡ w .inserts + insCount (rest o)
 
-    pub walk-starts : (w : Walk) (sets : List ActionSet) → Begun w → length sets ≡ 64 → take count sets ≡ replicate count EMPTY → Walking 0 w sets
+    pub walk-starts : (w : Walk) (sets : List ActionSet) → Begun w → count ≤ 64 → length sets ≡ 64 → take count sets ≡ replicate count EMPTY → Walking 0 w sets
     unfolding marks possible reaching othersFit allTaken leafEffects EMPTY
-    walk-starts w sets b l e = record {
+    walk-starts w sets b n l e = record {
       below = omega arith;
+      short = n;
       stepRecords = all-left stepFits (λ k. stepRecordAt file (at + 12 * k)) count;
       fit = fit-whole r file at count;
       ks = reaching 0 0;
-      agrees = λ t. b .marks;
+      settled = inl record {
+        once = λ p h. absurd (omega arith);
+        agrees = b .marks;
+        others = λ six. ap (λ (ss : List Step). everyAt (λ p s. isNext s || modeFits (marks code) p s) 0 ss) code-rest ∙ sym (ap (λ (t : Bool). t && othersFrom 0) (b .modes));
+      };
       walk = ap (λ (ss : List Step). walked 0 ss (reaching 0 0)) code-rest;
       nexts = λ q. ap (λ (n : ℕ). has n q) (b .nexts) ∙ has-empty q ∙ sym (ap (λ (t : Bool). t && isNext (getD code q halt)) (le-ltb q 0 (omega arith)));
       room = l;
       pass = ap (λ (n : ℕ). passedOn r 0 code (replicate n EMPTY)) (code-length file at count)
           ∙ ap₂ (λ (ss : List Step) (ps : List ActionSet). passedOn r 0 ss ps) code-rest (sym e);
-      others = λ six. ap (λ (ss : List Step). everyAt (λ p s. isNext s || modeFits (marks code) p s) 0 ss) code-rest ∙ sym (ap (λ (t : Bool). t && othersFrom 0) (b .modes));
       branches = λ six. ap (λ (ss : List Step). everyAt (branchesTaken (possible r code)) 0 ss) code-rest ∙ sym (ap (λ (t : Bool). t && takenFrom 0) (b .taken));
       affects = λ six. ap (λ (ss : List Step). codeEffects (possible r code) 0 ss) code-rest ∙ sym (union-none (effectsFrom 0)) ∙ sym (ap (λ (x : ActionSet). union x (effectsFrom 0)) (b .effects));
       few = omega (arith, b .inserts);
@@ -153,8 +182,8 @@ module _ (file : Bytes) (at count : ℕ) where
       rest-is = listed-rest stepIn o count h
 
       -- the walk stands at the step
-      pub stands-here : Stands code o count (stepIn o) (g .ks) w
-      stands-here = record { size = code-length file at count; here = code-at file at count o h; agrees = g .agrees; nexts = g .nexts }
+      pub stands-here : Stands code o count (stepIn o) w
+      stands-here = record { size = code-length file at count; here = code-at file at count o h; nexts = g .nexts }
 
       -- a step that keeps rules 4 and 6
       module _ (w′ : Walk) (sets′ : List ActionSet) (row : stepFits (stepRecordAt file (at + 12 * o)) ≡ true)
@@ -184,13 +213,72 @@ module _ (file : Bytes) (at count : ℕ) where
             g .pass ∙ ap (λ (l : List Step). passedOn r o l (take count sets)) rest-is
             ∙ ap₂ (λ (n : ℕ) (ps : List ActionSet). passedOn r n (rest (o + 1)) ps) z now
 
-        others-on : T (targetsFit r code) → othersFit code ≡ (w′ .modes && othersFrom (o + 1))
-        others-on six =
-            let here : (isNext (stepIn o) || modeFits (marks code) o (stepIn o)) ≡ (isNext (stepIn o) || modeFits (g .ks) o (stepIn o)) =
-            unless-next (isNext (stepIn o)) _ _ (λ n. fits-by (marks code) (g .ks) o (stepIn o) (final-marks six n)) in
-            g .others six
-            ∙ ap (λ (b : Bool). w .modes && b) (everyAt-rest (λ p s. isNext s || modeFits (marks code) p s) stepIn o count h ∙ ap (λ (b : Bool). b && othersFrom (o + 1)) here)
-            ∙ and-assoc (w .modes) _ (othersFrom (o + 1)) ∙ sym (ap (λ (b : Bool). b && othersFrom (o + 1)) (went .modes))
+        -- no step that is past is marked again, but a next
+        not-target : (q : ℕ) → q ≤ o → isNext (getD code q halt) ≡ false → List·Memᴰ q (targets (stepIn o)) → ⊥
+        unfolding targetFits
+        not-target q l n d =
+            ⊎-elim (λ u. let v = ltb→lt o q u in omega arith) (λ u. subst T n u) (or-cases (ltb o q) (isNext (getD code q halt)) (and-right (ltb q (length code)) (ltb o q || isNext (getD code q halt))
+            (every-mem (targetFits code o) (targets (stepIn o)) (and-right (asksWithin r (stepIn o)) (every (targetFits code o) (targets (stepIn o))) (of-yes _ tested)) q d)))
+
+        same-once : (q : ℕ) → q ≤ o → isNext (getD code q halt) ≡ false → (s : Step) → onceAt (w′ .marks) q s ≡ onceAt (w .marks) q s
+        unfolding onceAt word Aside
+        same-once q l n s =
+            let k : q < 64 = omega (arith, l, h, g .short) in
+            let x = went .aside idle q k (not-target q l n) in
+            let y = went .aside pending q k (not-target q l n) in
+            let z = went .aside closing q k (not-target q l n) in
+            λ j. eqb (one (x j || isNext s) + one (y j) + one (z j)) 1
+
+        -- rule 7 of the step, by the marks before it and by those at the end
+        fits-here : T (targetsFit r code) → (isNext (stepIn o) || modeFits (marks code) o (stepIn o)) ≡ (isNext (stepIn o) || modeFits (g .ks) o (stepIn o))
+        fits-here six = unless-next (isNext (stepIn o)) _ _ (λ n. fits-by (marks code) (g .ks) o (stepIn o) (final-marks six n))
+
+        others-rest : T (targetsFit r code) → othersFrom o ≡ ((isNext (stepIn o) || modeFits (g .ks) o (stepIn o)) && othersFrom (o + 1))
+        others-rest six = everyAt-rest (λ p s. isNext s || modeFits (marks code) p s) stepIn o count h ∙ ap (λ (b : Bool). b && othersFrom (o + 1)) (fits-here six)
+
+        going-on : Going o w (g .ks) → Going (o + 1) w′ (stepped o (stepIn o) (g .ks)) ⊎ Lost (o + 1) w′
+        going-on u = go (isNext (stepIn o) || onceAt (w .marks) o (stepIn o)) refl
+          where
+            at-o : getD code o halt ≡ stepIn o
+            at-o = code-at file at count o h
+
+            once-on : T (isNext (stepIn o) || onceAt (w .marks) o (stepIn o)) → (q : ℕ) → q < o + 1 → isNext (getD code q halt) ≡ false → T (onceAt (w′ .marks) q (getD code q halt))
+            once-on t q l n = subst T (sym (same-once q (omega arith) n (getD code q halt))) (⊎-elim (λ k. u .once q k n) here (in-or-out o q))
+              where
+                here : o ≤ q → T (onceAt (w .marks) q (getD code q halt))
+                here k =
+                    let z : o ≡ q = omega arith in
+                    subst (λ (x : ℕ). T (onceAt (w .marks) x (getD code x halt))) z (subst (λ (s : Step). T (onceAt (w .marks) o s)) (sym at-o)
+                    (subst (λ (b : Bool). T (b || onceAt (w .marks) o (stepIn o))) (sym (ap isNext at-o) ∙ subst (λ (x : ℕ). isNext (getD code x halt) ≡ false) (sym z) n) t))
+
+            go : (b : Bool) → (isNext (stepIn o) || onceAt (w .marks) o (stepIn o)) ≡ b → Going (o + 1) w′ (stepped o (stepIn o) (g .ks)) ⊎ Lost (o + 1) w′
+            go true e = inl record {
+              once = once-on (of-yes _ e);
+              agrees = went .marks (u .agrees) (of-yes _ e);
+              others = λ six. u .others six ∙ ap (λ (b : Bool). w .modes && b) (others-rest six)
+                  ∙ and-assoc (w .modes) _ (othersFrom (o + 1)) ∙ sym (ap (λ (b : Bool). b && othersFrom (o + 1)) (went .modes (u .agrees) (of-yes _ e)));
+            }
+            go false e =
+                let n = or-false-left (isNext (stepIn o)) (onceAt (w .marks) o (stepIn o)) e in
+                let f = or-false-right (isNext (stepIn o)) (onceAt (w .marks) o (stepIn o)) e in
+                inr record {
+                  place = o;
+                  before = omega arith;
+                  other = not-next n;
+                  unsettled = same-once o (omega arith) (not-next n) (getD code o halt) ∙ ap (onceAt (w .marks) o) at-o ∙ f;
+                  others = λ six. u .others six ∙ ap (λ (b : Bool). w .modes && b)
+                      (others-rest six ∙ (λ j. (n j || once-asked (w .marks) (g .ks) o (stepIn o) (omega (arith, h, g .short)) (u .agrees) f j) && othersFrom (o + 1))) ∙ and-false (w .modes);
+                }
+
+        settled-on : Going (o + 1) w′ (stepped o (stepIn o) (g .ks)) ⊎ Lost (o + 1) w′
+        settled-on = ⊎-elim going-on
+            (λ d. inr record {
+              place = d .place;
+              before = omega (arith, d .before);
+              other = d .other;
+              unsettled = same-once (d .place) (omega (arith, d .before)) (d .other) (getD code (d .place) halt) ∙ d .unsettled;
+              others = d .others;
+            }) (g .settled)
 
         branches-on : T (targetsFit r code) → allTaken r code ≡ (w′ .taken && takenFrom (o + 1))
         branches-on six =
@@ -220,12 +308,12 @@ module _ (file : Bytes) (at count : ℕ) where
           stepRecords = one-less stepFits (λ k. stepRecordAt file (at + 12 * k)) count o h (g .stepRecords) row;
           fit = fit-on;
           ks = stepped o (stepIn o) (g .ks);
-          agrees = went .marks;
+          short = g .short;
+          settled = settled-on;
           walk = walk-on;
           nexts = nexts-on code o (ap isNext (code-at file at count o h)) (w .nexts) (w′ .nexts) (g .nexts) (went .nexts);
           room = ap (length {A = ℕ}) (went .possible) ∙ pass-length r (stepIn o) p sets ∙ g .room;
           pass = pass-on;
-          others = others-on;
           branches = branches-on;
           affects = affects-on;
           few = omega (arith, g .few, went .inserts, one-small (isIns (stepIn o)));
@@ -242,9 +330,9 @@ module _ (file : Bytes) (at count : ℕ) where
       unfolding stepsFit
       all-records = sym (none-left stepFits (λ k. stepRecordAt file (at + 12 * k)) count o h (g .stepRecords))
 
-      pub all-marks : T (w .modes) → Agrees (w .marks) (marks code)
+      all-marks : Going o w (g .ks) → Agrees (w .marks) (marks code)
       unfolding walked
-      all-marks t = subst (λ (ks : List Mark). Agrees (w .marks) ks) (sym (g .walk ∙ ap (λ (l : List Step). walked o l (g .ks)) none-left-here)) (g .agrees t)
+      all-marks u = subst (λ (ks : List Mark). Agrees (w .marks) ks) (sym (g .walk ∙ ap (λ (l : List Step). walked o l (g .ks)) none-left-here)) (u .agrees)
 
       pub all-nexts : NextsAre (w .nexts) code
       unfolding isNext
@@ -259,18 +347,27 @@ module _ (file : Bytes) (at count : ℕ) where
       pub all-fit : targetsFit r code ≡ true
       all-fit = g .fit ∙ fit-over r file at count o h
 
-      all-others : w .modes ≡ othersFit code
+      all-others : Going o w (g .ks) → othersFit code ≡ w .modes
       unfolding everyAt
-      all-others =
-          sym (g .others (of-yes _ all-fit) ∙ ap (λ (l : List Step). w .modes && everyAt (λ p s. isNext s || modeFits (marks code) p s) o l) none-left-here ∙ and-true (w .modes))
+      all-others u =
+          u .others (of-yes _ all-fit) ∙ ap (λ (l : List Step). w .modes && everyAt (λ p s. isNext s || modeFits (marks code) p s) o l) none-left-here ∙ and-true (w .modes)
 
-      -- rule 7, in its two parts: where the first is broken, the second says nothing
-      pub all-modes : {b : Bool} → (Agrees (w .marks) (marks code) → b ≡ nextsFit code) → (w .modes && b) ≡ modesFit code
-      all-modes {b} f = go (w .modes) refl ∙ modes-parts code
+      -- rule 7, in its two parts
+      pub all-modes : {b : Bool} → b ≡ allOnce (w .marks) code → (w .modes && b) ≡ modesFit code
+      all-modes {b} e = ⊎-elim going lost (g .settled) ∙ modes-parts code
         where
-          go : (m : Bool) → w .modes ≡ m → (w .modes && b) ≡ (othersFit code && nextsFit code)
-          go true e = (λ i. all-others i && f (all-marks (of-yes _ e)) i)
-          go false e = ap (λ (x : Bool). x && b) e ∙ sym (ap (λ (x : Bool). x && nextsFit code) (sym all-others ∙ e))
+          size : length code ≡ count
+          size = code-length file at count
+
+          going : Going o w (g .ks) → (w .modes && b) ≡ (othersFit code && nextsFit code)
+          going u =
+              let n = e ∙ once-nexts (w .marks) code (omega (arith, size, g .short)) (all-marks u) (λ q l. u .once q (omega (arith, l, size))) in
+              λ j. sym (all-others u) j && n j
+
+          lost : Lost o w → (w .modes && b) ≡ (othersFit code && nextsFit code)
+          lost d =
+              ap (λ (x : Bool). w .modes && x) (e ∙ not-all-once (w .marks) code (d .place) (omega (arith, d .before, g .below, size)) (d .unsettled)) ∙ and-false (w .modes)
+              ∙ sym (ap (λ (x : Bool). x && nextsFit code) (d .others (of-yes _ all-fit)))
 
       pub all-branches : w .taken ≡ allTaken r code
       unfolding everyAt

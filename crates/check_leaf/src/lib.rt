@@ -9,8 +9,8 @@ ghost use Rattle.check_leaf.specs.Leaf.{LeafFound, Begun};
 ghost use Rattle.spec_policy.specs.Records.{mostLeafSteps, stepSize};
 use actions::ActionSet;
 use check_layout::read_step;
+use check_modes::each_once;
 use check_modes::first_mark;
-use check_modes::nexts_fit;
 use check_steps::Walk;
 use check_steps::meet;
 use file_records::MOST_LEAF_STEPS;
@@ -59,7 +59,7 @@ fn begun() -> Walk
 
 // A walk ends at a step that breaks rule 4 or rule 6. What it has found by then says nothing of the leaf, and so is not given.
 pub fn walk(policy: &[u8], at: usize, count: usize, set: ActionSet) -> Walked
-    requires { ⌜ (at + stepSize * count ≤ length (now policy)) × (count ≤ mostLeafSteps) ⌝ }
+    requires { ⌜ (at + stepSize * count ≤ length (now policy)) × (1 ≤ count) × (count ≤ mostLeafSteps) ⌝ }
     ensures { λ r. ⌜ LeafFound r (set .bits) (stepsFit (now (policy .entry)) at count) (codeAt (now (policy .entry)) at count) ⌝ }
 {
     let mut w = begun();
@@ -81,7 +81,7 @@ pub fn walk(policy: &[u8], at: usize, count: usize, set: ActionSet) -> Walked
     Walked {
         fields: true,
         targets: true,
-        modes: w.modes & nexts_fit(w.nexts, w.marks),
+        modes: w.modes & each_once(w.nexts, count, w.marks),
         taken: w.taken,
         effects,
         inserts: w.inserts,

@@ -10,7 +10,7 @@ use lib.ListN.{length, getD, drop, drop-of-length-le}
 use borrow.Author.Tests.{eq-eqb}
 use lib.Seq.{drop-cons}
 use Rattle.actions.specs.Sets.{ActionSet}
-use Rattle.actions.proofs.Tests.{of-yes, and-left, and-right}
+use Rattle.actions.proofs.Tests.{true-not-false, of-yes, and-left, and-right}
 use Rattle.spec_policy.specs.Bytes.{Bytes}
 use Rattle.spec_policy.specs.Lists.{summed}
 use Rattle.spec_policy.specs.Records.{Node, nodeAt, nodePlace, nodeCount, stepCount, nodes, stepRecords}
@@ -38,24 +38,35 @@ unfolding withSteps
 placed-length [] ss = refl
 placed-length (x ∷ xs) ss = ap suc (placed-length xs (drop (stepsOwned x) ss))
 
--- ---- rule 4: a node's count is what it owns, at most 64
+-- what the code answers for a node of a kind, where b is its answer for a leaf
+unfoldable pub answerOf : NodeKind → Bool → Bool
+answerOf aLeaf b = b
+answerOf aTrivial b = true
+answerOf anUnsatisfiable b = true
+answerOf (aPair w j) b = true
+answerOf noNode b = true
+
+-- ---- rule 4: a node's count is what it owns, at most 64, and a leaf's is not 0
 
 pub record Counts (x : Node) : Type 0 where
   pub own : stepsOwned x ≡ x .count
   pub few : x .count ≤ 64
+  pub leaf : 1 ≤ x .count → aLeaf ≡ nodeKind (x .kind)
+  pub other : x .count ≡ 0 → nodeKind (x .kind) ≡ aLeaf → ⊥
 
-owns-none : (x : Node) (a b c : Bool) → stepsOwned x ≡ 0 → T (a && eqb (x .count) 0 && b && c) → Counts x
-owns-none x a b c e h =
+owns-none : (x : Node) (k : NodeKind) → nodeKind (x .kind) ≡ k → answerOf k false ≡ true → (a b c : Bool) → stepsOwned x ≡ 0 → T (a && eqb (x .count) 0 && b && c) → Counts x
+unfolding answerOf
+owns-none x k u v a b c e h =
     let z : x .count ≡ 0 =
     eqb→eq (x .count) 0 (and-right a (eqb (x .count) 0) (and-left (a && eqb (x .count) 0) b (and-left (a && eqb (x .count) 0 && b) c h))) in
-    record { own = e ∙ sym z; few = omega arith }
+    record { own = e ∙ sym z; few = omega arith; leaf = λ l. absurd (omega arith); other = λ l w. true-not-false v (ap (λ (j : NodeKind). answerOf j false) (sym u ∙ w)) }
 
 kind-counts : (x : Node) (k : NodeKind) → nodeKind (x .kind) ≡ k → T (nodeFits k x) → Counts x
-unfolding stepsOwned nodeFits
-kind-counts x aLeaf e h = record { own = leaf-owned x e; few = leaf-fits x h .1 }
-kind-counts x aTrivial e h = owns-none x (eqb (x .left) 0 && eqb (x .right) 0) (eqb (x .start) 0) (eqb (x .set) 0) (rw (e, stepsOwned)) h
-kind-counts x anUnsatisfiable e h = owns-none x (eqb (x .left) 0 && eqb (x .right) 0) (eqb (x .start) 0) (eqb (x .set) 0) (rw (e, stepsOwned)) h
-kind-counts x (aPair w j) e h = owns-none x true (eqb (x .start) 0) (eqb (x .set) 0) (rw (e, stepsOwned)) h
+unfolding stepsOwned nodeFits answerOf
+kind-counts x aLeaf e h = record { own = leaf-owned x e; few = leaf-fits x h .1; leaf = λ l. sym e; other = λ l w. let g = leaf-fits x h .0 in omega arith }
+kind-counts x aTrivial e h = owns-none x aTrivial e refl (eqb (x .left) 0 && eqb (x .right) 0) (eqb (x .start) 0) (eqb (x .set) 0) (rw (e, stepsOwned)) h
+kind-counts x anUnsatisfiable e h = owns-none x anUnsatisfiable e refl (eqb (x .left) 0 && eqb (x .right) 0) (eqb (x .start) 0) (eqb (x .set) 0) (rw (e, stepsOwned)) h
+kind-counts x (aPair w j) e h = owns-none x (aPair w j) e refl true (eqb (x .start) 0) (eqb (x .set) 0) (rw (e, stepsOwned)) h
 kind-counts x noNode e h = absurd h
 
 -- ---- over a file
@@ -77,6 +88,8 @@ places-length file = placed-length (nodes file) (map stepOf (stepRecords file)) 
 -- `count` as the code reads it of node i, whose record begins at `place`
 pub record Counted (file : Bytes) (i count : ℕ) : Type 0 where
   pub few : count ≤ 64
+  pub leaf : 1 ≤ count → aLeaf ≡ nodeKind (nodeNo file i .kind)
+  pub other : count ≡ 0 → nodeKind (nodeNo file i .kind) ≡ aLeaf → ⊥
   pub own : count ≡ stepsOwned (nodeNo file i)
   pub next : firstStep file (i + 1) ≡ firstStep file i + count
 
@@ -87,17 +100,9 @@ counted {file} f fits i place count h p k =
     let x : Counts (nodeNo file i) = node-counts file fits i l in
     let e : count ≡ nodeNo file i .count = k ∙ ap (λ (q : ℕ). nodeAt file q .count) p in
     let o : count ≡ stepsOwned (nodeNo file i) = e ∙ sym (x .own) in
-    record { few = omega arith; own = o; next = first-next file i l ∙ ap (λ (c : ℕ). firstStep file i + c) (sym o) }
+    record { few = omega arith; leaf = λ l. x .leaf (omega arith); other = λ l. x .other (sym e ∙ l); own = o; next = first-next file i l ∙ ap (λ (c : ℕ). firstStep file i + c) (sym o) }
 
 -- ---- a test of one node, by its kind
-
--- what the code answers for a node of a kind, where b is its answer for a leaf
-unfoldable pub answerOf : NodeKind → Bool → Bool
-answerOf aLeaf b = b
-answerOf aTrivial b = true
-answerOf anUnsatisfiable b = true
-answerOf (aPair w j) b = true
-answerOf noNode b = true
 
 pub passes-by : (g : ActionSet → List Step → Bool) (x : Node) (code : List Step) (k : NodeKind) → k ≡ nodeKind (x .kind)
     → answerOf k (g (x .set) code) ≡ nodePasses g x code

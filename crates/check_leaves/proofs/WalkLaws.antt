@@ -3,26 +3,21 @@ use Prim.Native.Nat.{ℕ, _+_, _*_, _-_, _≤_, _<_}
 use native.Mathlib.Omega.{arith}
 use mathlib.Core.Path.{_≡_, refl, sym, ap, _∙_, subst}
 use mathlib.Core.Bool.{Bool, true, false, _&&_, not}
-use mathlib.Core.List.{List, [], _∷_, map}
+use mathlib.Core.List.{List, map}
 use lib.Dec.{eqb}
 use lib.ListN.{length, getD, set, length-set}
 use lib.Seq.{getD-set-same, getD-set-other}
 use borrow.Author.Tests.{eqb-true, eqb-false}
-use types.Run.{OneOf, miss}
-use denote.Enum.Declared.{tagOf}
+use mathlib.Core.Logic.{⊎-elim}
 use Rattle.actions.specs.Sets.{ActionSet}
-use Rattle.actions.proofs.Tests.{true-not-false, and-assoc, and-true}
+use Rattle.actions.proofs.Tests.{and-assoc, and-true}
 use Rattle.spec_policy.specs.Bytes.{Bytes}
 use Rattle.spec_policy.specs.Lists.{summed, every}
 use Rattle.spec_policy.specs.Records.{mostNodes, Node, nodeAt, nodePlace, nodeCount, nodes, stepRecords}
 use Rattle.spec_policy.specs.Steps.{Step}
-use Rattle.spec_policy.specs.Tree.{aLeaf, aTrivial, anUnsatisfiable, noNode, NodeKind, nodeKind, stepsOwned, firstStep, noNodeSteps, nodesWithSteps}
+use Rattle.spec_policy.specs.Tree.{aLeaf, aTrivial, anUnsatisfiable, aPair, noNode, NodeKind, nodeKind, stepsOwned, firstStep, noNodeSteps, nodesWithSteps}
 use Rattle.spec_policy.proofs.NodeLaws.{first-none, first-over}
-use Rattle.file_records.specs.Kinds.{kindOf}
 use Rattle.file_records.specs.Code.{codeAt}
-use Rattle.file_records.specs.declared.Kind.{Kind}
-use Rattle.file_records.specs.declared.Kind.the-variants.{Leaf, Trivial, Unsatisfiable, Pair, Unknown}
-use Rattle.file_records.proofs.Kind.{the-type}
 use Rattle.check_layout.specs.Frame.{Framed}
 use Rattle.check_layout.specs.Fits.{nodesFit, stepsFit, ruleOr4}
 use Rattle.check_layout.proofs.Frame.{all-records}
@@ -33,6 +28,7 @@ use Rattle.spec_check.specs.Targets.{targetsFit}
 use Rattle.spec_check.specs.Modes.{broken7}
 use Rattle.spec_check.specs.Possible.{allTaken, broken8}
 use Rattle.spec_check.specs.Interference.{leafEffects}
+use Rattle.spec_check.proofs.Ahead.{in-or-out}
 use Rattle.spec_check.proofs.Numbers.{node-read}
 use Rattle.check_leaf.specs.declared.Walked.{Walked}
 use Rattle.check_leaf.specs.Leaf.{LeafFound}
@@ -64,32 +60,17 @@ module _ (file : Bytes) (at count : ℕ) (x : Node) (w : Walked) where
         };
       }
 
-  -- a node that is no leaf, and so owns no step
-  pub other-found : (q : Kind) → w .fields ≡ true → w .targets ≡ true → w .modes ≡ true → w .taken ≡ true → count ≡ stepsOwned x
-      → kindOf q ≡ nodeKind (x .kind) → OneOf (1 ∷ 2 ∷ 3 ∷ 4 ∷ []) (tagOf the-type q) → NodeFound w x (stepsFit file at count) code
-  unfolding answerOf kindOf stepsOwned
-  other-found q four six seven eight own = go q
-    where
-      found : (j : NodeKind) → ((b : Bool) → answerOf j b ≡ true) → stepsOwned x ≡ 0 → j ≡ nodeKind (x .kind) → NodeFound w x (stepsFit file at count) code
-      found j a none u = record {
-        fields-broken = λ g. true-not-false four g;
-        targets-broken = λ g t. true-not-false six t;
-        kept = λ g t. record {
-          stepRecords = ap (stepsFit file at) (own ∙ none) ∙ records-none file at;
-          targets = sym (passes-by targetsFit x code j u) ∙ a (targetsFit (x .set) code);
-          modes = seven ∙ sym (a (modesOf (x .set) code)) ∙ passes-by modesOf x code j u;
-          taken = eight ∙ sym (a (allTaken (x .set) code)) ∙ passes-by allTaken x code j u;
-          effects = λ l. true-not-false (a false) (ap (λ (k : NodeKind). answerOf k false) (u ∙ l));
-          inserts = λ l. true-not-false (a false) (ap (λ (k : NodeKind). answerOf k false) (u ∙ l));
-        };
-      }
-
-      go : (q : Kind) → kindOf q ≡ nodeKind (x .kind) → OneOf (1 ∷ 2 ∷ 3 ∷ 4 ∷ []) (tagOf the-type q) → NodeFound w x (stepsFit file at count) code
-      go Leaf u o = absurd (miss (1 ∷ 2 ∷ 3 ∷ 4 ∷ []) 0 tt o)
-      go Trivial u o = found aTrivial (λ b. refl) (rw (sym u, stepsOwned)) u
-      go Unsatisfiable u o = found anUnsatisfiable (λ b. refl) (rw (sym u, stepsOwned)) u
-      go (Pair v j) u o = found _ (λ b. refl) (rw (sym u, stepsOwned)) u
-      go Unknown u o = found noNode (λ b. refl) (rw (sym u, stepsOwned)) u
+-- any other node passes
+other-passes : (g : ActionSet → List Step → Bool) (x : Node) (ss : List Step) → (nodeKind (x .kind) ≡ aLeaf → ⊥) → nodePasses g x ss ≡ true
+unfolding answerOf
+other-passes g x ss apart = sym (passes-by g x ss (nodeKind (x .kind)) refl) ∙ go (nodeKind (x .kind)) apart
+  where
+    go : (k : NodeKind) → (k ≡ aLeaf → ⊥) → answerOf k (g (x .set) ss) ≡ true
+    go aLeaf h = absurd (h refl)
+    go aTrivial h = refl
+    go anUnsatisfiable h = refl
+    go (aPair w j) h = refl
+    go noNode h = refl
 
 -- ---- node after node
 
@@ -109,6 +90,15 @@ held-more f file i v xs few old new = record { room = length-set xs i v ∙ old 
     go k h l false e =
         let z : k ≡ i → ⊥ = eqb-false k i e in
         getD-set-other xs i k v 0 z ∙ old .at k (omega (arith, z)) l
+
+-- a node more that is no leaf
+held-over : (f : ActionSet → List Step → ℕ) (file : Bytes) (i : ℕ) (xs : List ℕ) → LeafValues f file i xs
+    → (nodeKind (getD (nodesWithSteps file) i noNodeSteps .node .kind) ≡ aLeaf → ⊥) → LeafValues f file (i + 1) xs
+held-over f file i xs old apart = record { room = old .room; at = λ k h l. old .at k (below k h l) l }
+  where
+    below : (k : ℕ) → k < i + 1 → nodeKind (getD (nodesWithSteps file) k noNodeSteps .node .kind) ≡ aLeaf → k < i
+    below k h l = ⊎-elim (λ b. b)
+        (λ b. let z : k ≡ i = omega arith in absurd (apart (subst (λ (j : ℕ). nodeKind (getD (nodesWithSteps file) j noNodeSteps .node .kind) ≡ aLeaf) z l))) (in-or-out i k)
 
 module _ {file : Bytes} {n m : ℕ} (f : Framed file n m) (fits : nodesFit file ≡ true) (all : summed (map stepsOwned (nodes file)) ≡ m) where
   -- what is found of the nodes before node i, whose steps begin at `at`
@@ -143,10 +133,15 @@ module _ {file : Bytes} {n m : ℕ} (f : Framed file n m) (fits : nodesFit file 
         inserts = none-held insertsIn ins k;
       }
 
-  -- the walk through node i, whose record begins at `place`, has given w
+  -- node i, whose record begins at `place`
   module _ (i at : ℕ) (effs ins : List ℕ) (modes taken : Bool) (s : Walking i at effs ins modes taken) (place count : ℕ) (h : i < n)
-      (p : place ≡ nodePlace i) (k : count ≡ nodeAt file place .count) (w : Walked)
-      (found : NodeFound w (nodeAt file place) (stepsFit file at count) (codeAt file at count)) where
+      (p : place ≡ nodePlace i) (k : count ≡ nodeAt file place .count) where
+    node-is : getD (nodesWithSteps file) i noNodeSteps .node ≡ nodeAt file place
+    node-is = node-read file (omega (arith, f .nodes)) p
+
+    leaf-here : nodeKind (getD (nodesWithSteps file) i noNodeSteps .node .kind) ≡ aLeaf → nodeKind (nodeAt file place .kind) ≡ aLeaf
+    leaf-here l = ap (λ (x : Node). nodeKind (x .kind)) (sym node-is) ∙ l
+
     next : firstStep file (i + 1) ≡ firstStep file i + count
     next = counted f fits i place count h p k .next
 
@@ -159,40 +154,54 @@ module _ {file : Bytes} {n m : ℕ} (f : Framed file n m) (fits : nodesFit file 
         let z : m - firstStep file i ≡ count + (m - firstStep file (i + 1)) = omega (arith, next, steps-in f fits all i h) in
         s .fours ∙ ap (stepsFit file at) z ∙ records-split file at count (m - firstStep file (i + 1))
 
-    pub stops-at-4 : w .fields ≡ false → every stepFits (stepRecords file) ≡ false
-    stops-at-4 bad = records-rest ∙ ap (λ (b : Bool). b && stepsFit file (at + 12 * count) (m - firstStep file (i + 1))) (found .fields-broken bad)
+    -- it is no leaf, and owns no step
+    pub walk-passes : count ≡ 0 → Walking (i + 1) at effs ins modes taken
+    walk-passes z =
+        let apart : nodeKind (nodeAt file place .kind) ≡ aLeaf → ⊥ = λ l. counted f fits i place count h p k .other z (subst (λ (q : ℕ). nodeKind (nodeAt file q .kind) ≡ aLeaf) p l) in
+        let past : (g : ActionSet → List Step → Bool) → leavesFrom g file i ≡ leavesFrom g file (i + 1)
+        = λ g. rest g ∙ ap (λ (b : Bool). b && leavesFrom g file (i + 1)) (other-passes g (nodeAt file place) (codeAt file at count) apart) in
+        record {
+          below = omega arith;
+          begins = omega (arith, s .begins, next, z);
+          room = s .room;
+          fours = let e : firstStep file i ≡ firstStep file (i + 1) = omega (arith, next, z) in s .fours ∙ ap (λ (x : ℕ). stepsFit file at (m - x)) e;
+          sixes = s .sixes ∙ past targetsFit;
+          sevens = s .sevens ∙ ap (λ (b : Bool). modes && b) (past modesOf);
+          eights = s .eights ∙ ap (λ (b : Bool). taken && b) (past allTaken);
+          effects = held-over leafEffects file i effs (s .effects) (λ l. apart (leaf-here l));
+          inserts = held-over insertsIn file i ins (s .inserts) (λ l. apart (leaf-here l));
+        }
 
-    pub stops-at-6 : w .fields ≡ true → w .targets ≡ false → everyLeaf targetsFit (nodesWithSteps file) ≡ false
-    stops-at-6 good bad = s .sixes ∙ rest targetsFit ∙ ap (λ (b : Bool). b && leavesFrom targetsFit file (i + 1)) (found .targets-broken good bad)
+    -- the walk through it has given w
+    module _ (w : Walked) (found : NodeFound w (nodeAt file place) (stepsFit file at count) (codeAt file at count)) where
+      pub stops-at-4 : w .fields ≡ false → every stepFits (stepRecords file) ≡ false
+      stops-at-4 bad = records-rest ∙ ap (λ (b : Bool). b && stepsFit file (at + 12 * count) (m - firstStep file (i + 1))) (found .fields-broken bad)
 
-    module _ (four : w .fields ≡ true) (six : w .targets ≡ true) where
-      kept : NodeKept w (nodeAt file place) (stepsFit file at count) (codeAt file at count)
-      kept = found .kept four six
+      pub stops-at-6 : w .fields ≡ true → w .targets ≡ false → everyLeaf targetsFit (nodesWithSteps file) ≡ false
+      stops-at-6 good bad = s .sixes ∙ rest targetsFit ∙ ap (λ (b : Bool). b && leavesFrom targetsFit file (i + 1)) (found .targets-broken good bad)
 
-      node-is : getD (nodesWithSteps file) i noNodeSteps .node ≡ nodeAt file place
-      node-is = node-read file (omega (arith, f .nodes)) p
+      module _ (four : w .fields ≡ true) (six : w .targets ≡ true) where
+        kept : NodeKept w (nodeAt file place) (stepsFit file at count) (codeAt file at count)
+        kept = found .kept four six
 
-      leaf-here : nodeKind (getD (nodesWithSteps file) i noNodeSteps .node .kind) ≡ aLeaf → nodeKind (nodeAt file place .kind) ≡ aLeaf
-      leaf-here l = ap (λ (x : Node). nodeKind (x .kind)) (sym node-is) ∙ l
+        of-place : (g : ActionSet → List Step → ℕ)
+            → g (nodeAt file place .set) (codeAt file at count) ≡ g (getD (nodesWithSteps file) i noNodeSteps .node .set) (getD (nodesWithSteps file) i noNodeSteps .steps)
+        of-place g = let e = sym node-is in let c = code-is f fits all i place at count h p (s .begins) k in λ j. g (e j .set) (c j)
 
-      of-place : (g : ActionSet → List Step → ℕ)
-          → g (nodeAt file place .set) (codeAt file at count) ≡ g (getD (nodesWithSteps file) i noNodeSteps .node .set) (getD (nodesWithSteps file) i noNodeSteps .steps)
-      of-place g = let e = sym node-is in let c = code-is f fits all i place at count h p (s .begins) k in λ j. g (e j .set) (c j)
-
-      pub walk-goes : Walking (i + 1) (at + 12 * count) (set effs i (w .effects .bits)) (set ins i (w .inserts)) (modes && w .modes) (taken && w .taken)
-      walk-goes = record {
-        below = omega arith;
-        begins = omega (arith, s .begins, next);
-        room = (length-set effs i (w .effects .bits) ∙ s .room .0, length-set ins i (w .inserts) ∙ s .room .1);
-        fours = records-rest ∙ ap (λ (b : Bool). b && stepsFit file (at + 12 * count) (m - firstStep file (i + 1))) (kept .stepRecords);
-        sixes = s .sixes ∙ rest targetsFit ∙ ap (λ (b : Bool). b && leavesFrom targetsFit file (i + 1)) (kept .targets);
-        sevens = s .sevens ∙ ap (λ (b : Bool). modes && b) (rest modesOf ∙ ap (λ (b : Bool). b && leavesFrom modesOf file (i + 1)) (sym (kept .modes)))
-            ∙ and-assoc modes (w .modes) (leavesFrom modesOf file (i + 1));
-        eights = s .eights ∙ ap (λ (b : Bool). taken && b) (rest allTaken ∙ ap (λ (b : Bool). b && leavesFrom allTaken file (i + 1)) (sym (kept .taken)))
-            ∙ and-assoc taken (w .taken) (leavesFrom allTaken file (i + 1));
-        effects = held-more leafEffects file i (w .effects .bits) effs (omega (arith, f .nodes)) (s .effects) (λ l. kept .effects (leaf-here l) ∙ of-place leafEffects);
-        inserts = held-more insertsIn file i (w .inserts) ins (omega (arith, f .nodes)) (s .inserts) (λ l. kept .inserts (leaf-here l) ∙ of-place insertsIn);
-      }
+        pub walk-goes : Walking (i + 1) (at + 12 * count) (set effs i (w .effects .bits)) (set ins i (w .inserts)) (modes && w .modes) (taken && w .taken)
+        walk-goes = record {
+          below = omega arith;
+          begins = omega (arith, s .begins, next);
+          room = (length-set effs i (w .effects .bits) ∙ s .room .0, length-set ins i (w .inserts) ∙ s .room .1);
+          fours = records-rest ∙ ap (λ (b : Bool). b && stepsFit file (at + 12 * count) (m - firstStep file (i + 1))) (kept .stepRecords);
+          sixes = s .sixes ∙ rest targetsFit ∙ ap (λ (b : Bool). b && leavesFrom targetsFit file (i + 1)) (kept .targets);
+          sevens = s .sevens ∙ ap (λ (b : Bool). modes && b) (rest modesOf ∙ ap (λ (b : Bool). b && leavesFrom modesOf file (i + 1)) (sym (kept .modes)))
+              ∙ and-assoc modes (w .modes) (leavesFrom modesOf file (i + 1));
+          eights = s .eights ∙ ap (λ (b : Bool). taken && b) (rest allTaken ∙ ap (λ (b : Bool). b && leavesFrom allTaken file (i + 1)) (sym (kept .taken)))
+              ∙ and-assoc taken (w .taken) (leavesFrom allTaken file (i + 1));
+          effects = held-more leafEffects file i (w .effects .bits) effs (omega (arith, f .nodes)) (s .effects) (λ l. kept .effects (leaf-here l) ∙ of-place leafEffects);
+          inserts = held-more insertsIn file i (w .inserts) ins (omega (arith, f .nodes)) (s .inserts) (λ l. kept .inserts (leaf-here l) ∙ of-place insertsIn);
+        }
 
   -- ---- the end
 

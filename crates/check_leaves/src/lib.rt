@@ -2,24 +2,18 @@
 ghost use mathlib.Core.Path.{_≡_};
 ghost use mathlib.Core.Bool.{true};
 ghost use mathlib.Core.List.{map};
-ghost use Prim.Native.Nat.{_+_, _*_, _≤_};
 ghost use lib.Dec.{eqb};
 ghost use lib.ListN.{length};
 ghost use Rattle.spec_policy.specs.Lists.{summed};
-ghost use Rattle.spec_policy.specs.Records.{mostNodes, nodeSize, nodeAt, nodes, mostLeafSteps, stepSize};
+ghost use Rattle.spec_policy.specs.Records.{mostNodes, nodes};
 ghost use Rattle.spec_policy.specs.Tree.{stepsOwned};
 ghost use Rattle.check_layout.specs.Frame.{Framed};
-ghost use Rattle.check_layout.specs.Fits.{nodesFit, stepsFit};
-ghost use Rattle.file_records.specs.Code.{codeAt};
-ghost use Rattle.check_leaves.specs.Leaves.{NodeFound, LeavesFound};
-use actions::ActionSet;
+ghost use Rattle.check_layout.specs.Fits.{nodesFit};
+ghost use Rattle.check_leaves.specs.Leaves.{LeavesFound};
 use check_layout::rule_or_4;
-use check_leaf::Walked;
 use check_leaf::walk;
-use file_records::Kind;
 use file_records::STEP_SIZE;
 use file_records::node_count;
-use file_records::node_kind;
 use file_records::node_place;
 use file_records::node_set;
 
@@ -38,28 +32,8 @@ pub fn all_owned(policy: &[u8], n: usize, m: usize) -> bool
     sum == m
 }
 
-// The node whose record begins at `place`, with the steps that it owns from `at` on: only a leaf is walked through.
-fn walk_node(policy: &[u8], place: usize, at: usize, count: usize) -> Walked
-    requires { ⌜ (place + nodeSize ≤ length (now policy)) × (at + stepSize * count ≤ length (now policy)) × (count ≤ mostLeafSteps) ⌝ }
-    requires { ⌜ count ≡ stepsOwned (nodeAt (now policy) place) ⌝ }
-    ensures { λ r. ⌜ NodeFound r (nodeAt (now (policy .entry)) place) (stepsFit (now (policy .entry)) at count) (codeAt (now (policy .entry)) at count) ⌝ }
-{
-    let kind = node_kind(policy, place);
-    match kind {
-        Kind::Leaf => walk(policy, at, count, node_set(policy, place)),
-        _ => Walked {
-            fields: true,
-            targets: true,
-            modes: true,
-            taken: true,
-            effects: ActionSet::EMPTY,
-            inserts: 0,
-        },
-    }
-}
-
 // The lowest of rules 4, 6, 7 and 8 that a leaf or its step records break, and 0 if none is broken: then each leaf's entry has its effect
-// set and its inserts. By rule 4 only a leaf counts steps, so each node's count moves on to the next node's steps.
+// set and its inserts. By rule 4 a leaf counts steps, and no other node does: so a count tells a leaf, and moves on to the next node's steps.
 pub fn walk_leaves(
     policy: &[u8],
     n: usize,
@@ -80,18 +54,20 @@ pub fn walk_leaves(
     while i < n {
         let place = node_place(i);
         let count = node_count(policy, place) as usize;
-        let leaf = walk_node(policy, place, at, count);
-        if !leaf.fields {
-            return 4;
+        if count > 0 {
+            let leaf = walk(policy, at, count, node_set(policy, place));
+            if !leaf.fields {
+                return 4;
+            }
+            if !leaf.targets {
+                return rule_or_4(policy, n, m, 6);
+            }
+            modes = modes & leaf.modes;
+            taken = taken & leaf.taken;
+            effects[i] = leaf.effects.bits;
+            inserts[i] = leaf.inserts;
+            at += STEP_SIZE * count;
         }
-        if !leaf.targets {
-            return rule_or_4(policy, n, m, 6);
-        }
-        modes = modes & leaf.modes;
-        taken = taken & leaf.taken;
-        effects[i] = leaf.effects.bits;
-        inserts[i] = leaf.inserts;
-        at += STEP_SIZE * count;
         i += 1;
     }
     if !modes {

@@ -3,23 +3,22 @@
 use Prim.Native.Nat.{ℕ, suc, _+_, _^_, _≤_, _<_}
 use native.Mathlib.Omega.{arith}
 use mathlib.Core.Path.{_≡_, refl, sym, ap, _∙_, subst}
-use mathlib.Core.Bool.{Bool, true, false, _&&_, _||_, not}
+use mathlib.Core.Bool.{Bool, true, false, _&&_, _||_, not, or-true, or-false}
 use mathlib.Core.List.{List, [], _∷_, _++_, List·Memᴰ, List·Memᴰ·head, List·Memᴰ·tail}
-use lib.Dec.{T, eqb}
-use lib.ListN.{length, getD, List·getD-eq-default}
-use mathlib.Core.Logic.{⊎-elim}
-use borrow.Author.Tests.{ne-eqb}
-use Rattle.actions.specs.Sets.{ActionSet, has, meets}
-use Rattle.actions.proofs.SetLaws.{has-low, meets-apart, apart-meets}
-use Rattle.actions.proofs.Tests.{true-not-false, of-yes, yes-of, and-intro, and-left, and-right, both}
+use lib.Dec.{T, eqb, ltb, ltb→lt}
+use lib.ListN.{length, getD}
+use borrow.Author.Tests.{ne-eqb, lt-ltb}
+use Rattle.actions.specs.Sets.{ActionSet, has, union, common, within, meets}
+use Rattle.actions.proofs.SetLaws.{has-union, has-common, within-has, has-within, meets-apart, apart-meets}
+use Rattle.actions.proofs.Tests.{true-not-false, of-yes, yes-of, no-of, and-intro, and-left, and-right, both}
 use Rattle.spec_policy.specs.Lists.{one, everyAt}
 use Rattle.spec_policy.specs.Steps.{Step, next, ok, sup, ins, acase, spend, end, halt, targets, isNext}
-use Rattle.spec_policy.proofs.ListLaws.{everyAt-at}
+use Rattle.spec_policy.proofs.ListLaws.{everyAt-from-0}
 use Rattle.spec_check.specs.Targets.{targetsFit}
 use Rattle.spec_check.specs.Modes.{Mode, idle, pending, closing, isIdle, isPending, isClosing, sameMode, stands, Mark, leads, marked, reachedBy, leadsIf, walked, stepped}
 use Rattle.spec_check.specs.Modes.{marks, modeFits, modesFit}
-use Rattle.spec_check.proofs.Ahead.{in-or-out, Suffix, suffix-head, suffix-tail, never-back}
-use Rattle.check_modes.specs.Marks.{word, Agrees, MarkedHere, NextsAre, othersFit, nextsFit}
+use Rattle.spec_check.proofs.Ahead.{Suffix, suffix-head, suffix-tail, never-back}
+use Rattle.check_modes.specs.Marks.{word, Agrees, MarkedHere, NextsAre, onceAt, allOnce, othersFit, nextsFit}
 use Rattle.check_modes.specs.declared.Marks.{Marks}
 
 -- ---- marks elsewhere
@@ -34,7 +33,7 @@ module _ (o : ℕ) (m : Mode) where
       off false b = refl
 
   module _ (s : Step) (h : List·Memᴰ o (targets s) → ⊥) where
-    leads-elsewhere : (n : Mode) (ks : List Mark) → marked m o (leads s n ++ ks) ≡ marked m o ks
+    pub leads-elsewhere : (n : Mode) (ks : List Mark) → marked m o (leads s n ++ ks) ≡ marked m o ks
     unfolding leads targets
     leads-elsewhere n ks = go s h
       where
@@ -125,7 +124,7 @@ pub modes-parts : (code : List Step) → (othersFit code && nextsFit code) ≡ m
 unfolding othersFit nextsFit modesFit
 modes-parts code = parts (modeFits (marks code)) 0 code
 
--- ---- the nexts, by words
+-- ---- lists of steps
 
 every-by : {A : Type 0} (f : ℕ → A → Bool) (i : ℕ) (xs : List A) (d : A) → ((j : ℕ) → j < length xs → T (f (i + j) (getD xs j d))) → T (everyAt f i xs)
 unfolding everyAt
@@ -135,44 +134,133 @@ every-by f i (x ∷ xs) d h =
     and-intro (f i x) (everyAt f (suc i) xs) (subst (λ (n : ℕ). T (f n x)) z (h 0 (omega arith)))
     (every-by f (suc i) xs d (λ j l. let y : i + suc j ≡ suc i + j = omega arith in subst (λ (n : ℕ). T (f n (getD xs j d))) y (h (suc j) (omega (arith, l)))))
 
--- what is past the last step is no next
-next-inside : (code : List Step) (o : ℕ) → isNext (getD code o halt) ≡ true → o < length code
-unfolding isNext
-next-inside code o e = ⊎-elim (λ l. l) (λ l. true-not-false e (ap isNext (List·getD-eq-default code halt l))) (in-or-out (length code) o)
+-- ---- every step in one mode, by words
 
-module _ (nexts : ℕ) (small : nexts < 2 ^ 64) (seen : Marks) (code : List Step) (are : NextsAre nexts code) (agree : Agrees seen (marks code)) where
-  abbrev test : ℕ → Step → Bool
-  test o s = not (isNext s) || modeFits (marks code) o s
+onesApart : Bool → Bool → Bool → Bool
+onesApart i p c = ((i && p) || (i && c)) || (p && c)
 
-  -- a next fits where neither word has it
-  fits-there : (o : ℕ) → isNext (getD code o halt) ≡ true → (not (has (seen .pending) o) && not (has (seen .closing) o)) ≡ modeFits (marks code) o (getD code o halt)
-  unfolding word
-  fits-there o e =
-      let l : o < 64 = has-low nexts o (are o ∙ e) in
-      next-fits (getD code o halt) o (has (seen .idle) o) (has (seen .pending) o) (has (seen .closing) o) (marks code) e
-      (record { idly = agree .at idle o l; pendingly = agree .at pending o l; closingly = agree .at closing o l })
+once-of : (i p c : Bool) → T ((i || p) || c) → T (not (onesApart i p c)) → T (eqb (one i + one p + one c) 1)
+unfolding onesApart one
+once-of true true c a b = absurd b
+once-of true false true a b = absurd b
+once-of true false false a b = tt
+once-of false true true a b = absurd b
+once-of false true false a b = tt
+once-of false false true a b = tt
+once-of false false false a b = absurd a
 
-  apart-fit : T (not (meets nexts (seen .pending)) && not (meets nexts (seen .closing))) → T (nextsFit code)
-  unfolding nextsFit
-  apart-fit t = every-by test 0 code halt (λ o l. let z : o ≡ 0 + o = omega arith in subst (λ (n : ℕ). T (test n (getD code o halt))) z (go o (isNext (getD code o halt)) refl))
+of-once : (i p c : Bool) → T (eqb (one i + one p + one c) 1) → T ((i || p) || c) × T (not (onesApart i p c))
+unfolding onesApart one
+of-once true true true t = absurd t
+of-once true true false t = absurd t
+of-once true false true t = absurd t
+of-once true false false t = (tt, tt)
+of-once false true true t = absurd t
+of-once false true false t = (tt, tt)
+of-once false false true t = (tt, tt)
+of-once false false false t = absurd t
+
+module _ (all nexts : ℕ) (small : all < 2 ^ 64) (seen : Marks) (code : List Step) (below : (q : ℕ) → has all q ≡ ltb q (length code)) (are : NextsAre nexts code) where
+  abbrev idly : ActionSet
+  idly = union (seen .idle) nexts
+
+  abbrev reached : ActionSet
+  reached = union (union idly (seen .pending)) (seen .closing)
+
+  abbrev twice : ActionSet
+  twice = union (union (common idly (seen .pending)) (common idly (seen .closing))) (common (seen .pending) (seen .closing))
+
+  has-idly : (o : ℕ) → has idly o ≡ (has (seen .idle) o || isNext (getD code o halt))
+  has-idly o = has-union (seen .idle) nexts o ∙ ap (λ (b : Bool). has (seen .idle) o || b) (are o)
+
+  has-reached : (o : ℕ) → has reached o ≡ (((has (seen .idle) o || isNext (getD code o halt)) || has (seen .pending) o) || has (seen .closing) o)
+  has-reached o =
+      has-union (union idly (seen .pending)) (seen .closing) o ∙ ap (λ (b : Bool). b || has (seen .closing) o)
+      (has-union idly (seen .pending) o ∙ ap (λ (b : Bool). b || has (seen .pending) o) (has-idly o))
+
+  has-twice : (o : ℕ) → has twice o ≡ onesApart (has (seen .idle) o || isNext (getD code o halt)) (has (seen .pending) o) (has (seen .closing) o)
+  unfolding onesApart
+  has-twice o =
+      has-union (union (common idly (seen .pending)) (common idly (seen .closing))) (common (seen .pending) (seen .closing)) o
+      ∙ (λ j. has-union (common idly (seen .pending)) (common idly (seen .closing)) o j || has-common (seen .pending) (seen .closing) o j)
+      ∙ (λ j. (has-common idly (seen .pending) o j || has-common idly (seen .closing) o j) || (has (seen .pending) o && has (seen .closing) o))
+      ∙ (λ j. ((has-idly o j && has (seen .pending) o) || (has-idly o j && has (seen .closing) o)) || (has (seen .pending) o && has (seen .closing) o))
+
+  words-once : T (within all reached && not (meets all twice)) → T (allOnce seen code)
+  unfolding allOnce onceAt
+  words-once t = every-by (onceAt seen) 0 code halt here
     where
-      go : (o : ℕ) (b : Bool) → isNext (getD code o halt) ≡ b → T (test o (getD code o halt))
-      go o true e =
-          let h : T (has nexts o) = of-yes (has nexts o) (are o ∙ e) in
-          let p = meets-apart nexts (seen .pending) (and-left (not (meets nexts (seen .pending))) (not (meets nexts (seen .closing))) t) o h in
-          let c = meets-apart nexts (seen .closing) (and-right (not (meets nexts (seen .pending))) (not (meets nexts (seen .closing))) t) o h in
-          rw e (subst T (fits-there o e) (and-intro (not (has (seen .pending) o)) (not (has (seen .closing) o)) p c))
-      go o false e = rw e tt
+      here : (o : ℕ) → o < length code → T (onceAt seen (0 + o) (getD code o halt))
+      here o l =
+          let z : o ≡ 0 + o = omega arith in
+          let h : T (has all o) = of-yes (has all o) (below o ∙ lt-ltb o (length code) l) in
+          let a = within-has all reached (and-left (within all reached) (not (meets all twice)) t) o h in
+          let b = meets-apart all twice (and-right (within all reached) (not (meets all twice)) t) o h in
+          subst (λ (n : ℕ). T (onceAt seen n (getD code o halt))) z
+          (once-of (has (seen .idle) o || isNext (getD code o halt)) (has (seen .pending) o) (has (seen .closing) o)
+          (subst T (has-reached o) a) (subst (λ (x : Bool). T (not x)) (has-twice o) b))
 
-  fit-apart : T (nextsFit code) → T (not (meets nexts (seen .pending)) && not (meets nexts (seen .closing)))
-  unfolding nextsFit
-  fit-apart t = and-intro (not (meets nexts (seen .pending))) (not (meets nexts (seen .closing))) (apart-meets nexts (seen .pending) small (λ o h. and-left (not (has (seen .pending) o)) (not (has (seen .closing) o)) (here o h)))
-      (apart-meets nexts (seen .closing) small (λ o h. and-right (not (has (seen .pending) o)) (not (has (seen .closing) o)) (here o h)))
+  once-words : T (allOnce seen code) → T (within all reached && not (meets all twice))
+  unfolding allOnce onceAt
+  once-words t = and-intro (within all reached) (not (meets all twice))
+      (has-within all reached small (λ o h. subst T (sym (has-reached o)) (here o h .0)))
+      (apart-meets all twice small (λ o h. subst (λ (x : Bool). T (not x)) (sym (has-twice o)) (here o h .1)))
     where
-      here : (o : ℕ) → T (has nexts o) → T (not (has (seen .pending) o) && not (has (seen .closing) o))
+      here : (o : ℕ) → T (has all o) → T (((has (seen .idle) o || isNext (getD code o halt)) || has (seen .pending) o) || has (seen .closing) o)
+          × T (not (onesApart (has (seen .idle) o || isNext (getD code o halt)) (has (seen .pending) o) (has (seen .closing) o)))
       here o h =
-          let e : isNext (getD code o halt) ≡ true = sym (are o) ∙ yes-of (has nexts o) h in
-          subst T (sym (fits-there o e)) (subst (λ (b : Bool). T (not b || modeFits (marks code) o (getD code o halt))) e (let z : 0 + o ≡ o = omega arith in subst (λ (n : ℕ). T (test n (getD code o halt))) z (everyAt-at test 0 code halt t o (next-inside code o e))))
+          of-once (has (seen .idle) o || isNext (getD code o halt)) (has (seen .pending) o) (has (seen .closing) o)
+          (everyAt-from-0 (onceAt seen) code halt t o (ltb→lt o (length code) (of-yes (ltb o (length code)) (sym (below o) ∙ yes-of (has all o) h))))
 
-  pub nexts-by-words : (not (meets nexts (seen .pending)) && not (meets nexts (seen .closing))) ≡ nextsFit code
-  nexts-by-words = both (not (meets nexts (seen .pending)) && not (meets nexts (seen .closing))) (nextsFit code) apart-fit fit-apart
+  pub once-by-words : (within all reached && not (meets all twice)) ≡ allOnce seen code
+  once-by-words = both (within all reached && not (meets all twice)) (allOnce seen code) words-once once-words
+
+-- ---- what that says of the nexts, where the words agree with the marks and each other step is reached in one mode
+
+module _ (seen : Marks) (code : List Step) (short : length code ≤ 64) (agree : Agrees seen (marks code))
+    (others : (o : ℕ) → o < length code → isNext (getD code o halt) ≡ false → T (onceAt seen o (getD code o halt))) where
+  at-next : (o : ℕ) → o < 64 → isNext (getD code o halt) ≡ true → onceAt seen o (getD code o halt) ≡ modeFits (marks code) o (getD code o halt)
+  unfolding onceAt word one
+  at-next o l e =
+      (λ j. eqb (one (has (seen .idle) o || e j) + one (has (seen .pending) o) + one (has (seen .closing) o)) 1)
+      ∙ (λ j. eqb (one (or-true (has (seen .idle) o) j) + one (has (seen .pending) o) + one (has (seen .closing) o)) 1)
+      ∙ neither (has (seen .pending) o) (has (seen .closing) o)
+      ∙ next-fits (getD code o halt) o (has (seen .idle) o) (has (seen .pending) o) (has (seen .closing) o) (marks code) e
+      (record { idly = agree .at idle o l; pendingly = agree .at pending o l; closingly = agree .at closing o l })
+    where
+      neither : (p c : Bool) → eqb (1 + one p + one c) 1 ≡ (not p && not c)
+      neither true true = refl
+      neither true false = refl
+      neither false true = refl
+      neither false false = refl
+
+  at-each : (o : ℕ) → o < length code → onceAt seen o (getD code o halt) ≡ (not (isNext (getD code o halt)) || modeFits (marks code) o (getD code o halt))
+  at-each o l = go (isNext (getD code o halt)) refl
+    where
+      go : (b : Bool) → isNext (getD code o halt) ≡ b → onceAt seen o (getD code o halt) ≡ (not (isNext (getD code o halt)) || modeFits (marks code) o (getD code o halt))
+      go true e = at-next o (omega (arith, l, short)) e ∙ sym (ap (λ (x : Bool). not x || modeFits (marks code) o (getD code o halt)) e)
+      go false e = yes-of _ (others o l e) ∙ sym (ap (λ (x : Bool). not x || modeFits (marks code) o (getD code o halt)) e)
+
+  pub once-nexts : allOnce seen code ≡ nextsFit code
+  unfolding allOnce nextsFit
+  once-nexts = both (everyAt (onceAt seen) 0 code) (everyAt test 0 code)
+      (λ t. every-by test 0 code halt (λ o l. let z : o ≡ 0 + o = omega arith in subst (λ (n : ℕ). T (test n (getD code o halt))) z (subst T (at-each o l) (everyAt-from-0 (onceAt seen) code halt t o l))))
+      (λ t. every-by (onceAt seen) 0 code halt (λ o l. let z : o ≡ 0 + o = omega arith in subst (λ (n : ℕ). T (onceAt seen n (getD code o halt))) z (subst T (sym (at-each o l)) (everyAt-from-0 test code halt t o l))))
+    where
+      test : ℕ → Step → Bool
+      test o s = not (isNext s) || modeFits (marks code) o s
+
+-- one step that is not reached in one mode
+pub not-all-once : (seen : Marks) (code : List Step) (o : ℕ) → o < length code → onceAt seen o (getD code o halt) ≡ false → allOnce seen code ≡ false
+unfolding allOnce
+not-all-once seen code o l e = no-of _ (λ t. subst T e (everyAt-from-0 (onceAt seen) code halt t o l))
+
+-- such a step breaks the rule
+pub once-asked : (seen : Marks) (ks : List Mark) (o : ℕ) (s : Step) → o < 64 → Agrees seen ks → onceAt seen o s ≡ false → modeFits ks o s ≡ false
+unfolding modeFits reachedBy onceAt word isIdle
+once-asked seen ks o s l g e =
+    let x = sym (g .at idle o l) in
+    let y = or-false (marked pending o ks) ∙ sym (g .at pending o l) in
+    let z = or-false (marked closing o ks) ∙ sym (g .at closing o l) in
+    ap (λ (b : Bool). b && (not (reachedBy ks idle o s) || stands s idle) && (not (reachedBy ks pending o s) || stands s pending) && (not (reachedBy ks closing o s) || stands s closing))
+    ((λ j. eqb (one (x j || isNext s) + one (y j) + one (z j)) 1) ∙ e)

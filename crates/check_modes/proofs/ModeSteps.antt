@@ -7,6 +7,7 @@ use mathlib.Core.Bool.{Bool, true, false, _&&_, _||_, not, or-true, or-false, or
 use mathlib.Core.List.{List, [], _∷_, _++_, append-assoc, append-nil}
 use lib.Dec.{T, eqb, ltb, ltb→lt, lt→ltb}
 use lib.ListN.{List·getD-eq-default}
+use Rattle.actions.specs.Sets.{has}
 use Rattle.actions.proofs.Tests.{and-intro, and-left, and-right, and-true, true-not-false}
 use Rattle.spec_policy.specs.Lists.{one, every}
 use Rattle.spec_policy.specs.Steps.{Step, next, ok, sup, ins, acase, spend, end, halt, targets, isNext}
@@ -14,7 +15,8 @@ use Rattle.spec_check.specs.Modes.{Mode, idle, pending, closing, isIdle, sameMo
 use Rattle.check_modes.specs.declared.Marks.{Marks}
 use Rattle.check_modes.specs.declared.Led.{Led}
 use Rattle.check_modes.specs.Table.{modeNumber, entryAt, reaching, ledBy, mayStand, Tells}
-use Rattle.check_modes.specs.Marks.{Agrees, Adds, roomFor, onlyIf, MarkedHere, fitsIn, StepLed}
+use Rattle.check_modes.specs.Marks.{word, Agrees, Adds, Aside, roomFor, onlyIf, fitsIn, followed, LedBy, onceAt, StepLed}
+use Rattle.check_modes.proofs.Final.{leads-elsewhere}
 
 -- ---- room for the marks
 
@@ -61,9 +63,14 @@ room-step s m kind first second e t h q =
 
 -- ---- a step
 
+marked-both : (m : Mode) (o : ℕ) (xs ys : List Mark) → marked m o (xs ++ ys) ≡ (marked m o xs || marked m o ys)
+unfolding marked
+marked-both m o [] ys = refl
+marked-both m o (k ∷ xs) ys = ap (λ (b : Bool). (sameMode m (k .mode) && eqb o (k .offset)) || b) (marked-both m o xs ys) ∙ sym (or-assoc (sameMode m (k .mode) && eqb o (k .offset)) (marked m o xs) (marked m o ys))
+
 pub adds-none : (bs : Marks) (mode o : ℕ) → 3 ≤ mode → Adds bs bs (reaching mode o)
-unfolding Adds reaching
-adds-none bs mode o h ks g = subst (λ (new : List Mark). Agrees bs (new ++ ks)) (sym (List·getD-eq-default choices [] h)) g
+unfolding Adds reaching marked
+adds-none bs mode o h m q l = subst (λ (new : List Mark). has (word bs m) q ≡ (marked m q new || has (word bs m) q)) (sym (List·getD-eq-default choices [] h)) refl
   where
     choices : List (List Mark)
     choices = (record { mode = idle; offset = o } ∷ []) ∷ (record { mode = pending; offset = o } ∷ []) ∷ (record { mode = closing; offset = o } ∷ []) ∷ []
@@ -71,54 +78,56 @@ adds-none bs mode o h ks g = subst (λ (new : List Mark). Agrees bs (new ++ ks))
 -- an entry's two marks
 pub lead-both : (e first second : ℕ) (x y z : Marks) → Adds x y (reaching (e % 4) second) → Adds y z (reaching (e / 4 % 4) first) → Adds x z (ledBy e first second)
 unfolding Adds ledBy
-lead-both e first second x y z u v ks g = rw append-assoc (v (reaching (e % 4) second ++ ks) (u ks g))
+lead-both e first second x y z u v m q l =
+    let a = reaching (e / 4 % 4) first in let b = reaching (e % 4) second in
+    v m q l ∙ ap (λ (t : Bool). marked m q a || t) (u m q l) ∙ sym (or-assoc (marked m q a) (marked m q b) (has (word x m) q))
+    ∙ sym (ap (λ (t : Bool). t || has (word x m) q) (marked-both m q a b))
 
--- ---- reached in one mode, in two, in none
+-- what the words add, the marks have
+pub adds-agree : (v w : Marks) (new ks : List Mark) → Adds v w new → Agrees v ks → Agrees w (new ++ ks)
+unfolding Adds
+adds-agree v w new ks a g = record { at = λ m q l. a m q l ∙ ap (λ (t : Bool). marked m q new || t) (g .at m q l) ∙ sym (marked-both m q new ks) }
 
-module _ (v w : Marks) (i p c : Bool) (xs ys zs : List Mark) where
-  pub adds-pending : p ≡ true → i ≡ false → c ≡ false → Adds v w ys → Adds v w (onlyIf i xs ++ (onlyIf p ys ++ onlyIf c zs))
-  unfolding onlyIf
-  adds-pending x y z a = rw (x, y, z) (subst (Adds v w) (sym (append-nil ys)) a)
+-- ---- reached in one mode: that one is followed
 
-  pub adds-closing : p ≡ false → c ≡ true → i ≡ false → Adds v w zs → Adds v w (onlyIf i xs ++ (onlyIf p ys ++ onlyIf c zs))
-  unfolding onlyIf
-  adds-closing x y z a = rw (x, y, z) a
+pub led-as : {e f first second : ℕ} {seen : Marks} {r : Led} → e ≡ f → LedBy e first second seen r → LedBy f first second seen r
+led-as {first = first} {second} {seen} {r} q d = subst (λ (x : ℕ). LedBy x first second seen r) q d
 
-  pub adds-idle : p ≡ false → c ≡ false → i ≡ true → Adds v w xs → Adds v w (onlyIf i xs ++ (onlyIf p ys ++ onlyIf c zs))
-  unfolding onlyIf
-  adds-idle x y z a = rw (x, y, z) (subst (Adds v w) (sym (append-nil xs)) a)
+module _ (e f h : ℕ) where
+  pub in-pending : (p c : Bool) → p ≡ true → f ≡ followed e f h p c
+  unfolding followed
+  in-pending p c x = rw x refl
 
-module _ (e f h : ℕ) (i p c : Bool) where
-  pub twice-lost : p ≡ true → (i || c) ≡ true → false ≡ fitsIn e f h i p c
-  unfolding fitsIn one
-  twice-lost x y = sym (go i p c x y)
-    where
-      go : (i p c : Bool) → p ≡ true → (i || c) ≡ true → fitsIn e f h i p c ≡ false
-      go true true true x y = refl
-      go true true false x y = refl
-      go false true true x y = refl
-      go false true false x y = true-not-false refl (sym y)
-      go i false c x y = true-not-false refl (sym x)
+  pub in-closing : (p c : Bool) → p ≡ false → c ≡ true → h ≡ followed e f h p c
+  unfolding followed
+  in-closing p c x y = rw (x, y) refl
 
-  pub closed-lost : p ≡ false → c ≡ true → i ≡ true → false ≡ fitsIn e f h i p c
-  unfolding fitsIn one
-  closed-lost x y z = rw (x, y, z) refl
+  pub in-idle : (p c : Bool) → p ≡ false → c ≡ false → e ≡ followed e f h p c
+  unfolding followed
+  in-idle p c x y = rw (x, y) refl
 
-  pub none-lost : p ≡ false → c ≡ false → i ≡ false → false ≡ fitsIn e f h i p c
-  unfolding fitsIn one
-  none-lost x y z = rw (x, y, z) refl
+  fits-once : (i p c : Bool) → T (eqb (one i + one p + one c) 1) → mayStand (followed e f h p c) ≡ fitsIn e f h i p c
+  unfolding fitsIn followed one
+  fits-once true true true t = absurd t
+  fits-once true true false t = absurd t
+  fits-once true false true t = absurd t
+  fits-once true false false t = sym (ap (λ (b : Bool). b && true) (and-true (mayStand e)) ∙ and-true (mayStand e))
+  fits-once false true true t = absurd t
+  fits-once false true false t = sym (and-true (mayStand f))
+  fits-once false false true t = refl
+  fits-once false false false t = absurd t
 
-  pub only-pending : p ≡ true → i ≡ false → c ≡ false → mayStand f ≡ fitsIn e f h i p c
-  unfolding fitsIn one
-  only-pending x y z = rw (x, y, z) (sym (and-true (mayStand f)))
-
-  pub only-closing : p ≡ false → c ≡ true → i ≡ false → mayStand h ≡ fitsIn e f h i p c
-  unfolding fitsIn one
-  only-closing x y z = rw (x, y, z) refl
-
-  pub only-idle : p ≡ false → c ≡ false → i ≡ true → mayStand e ≡ fitsIn e f h i p c
-  unfolding fitsIn one
-  only-idle x y z = rw (x, y, z) (sym (ap (λ (b : Bool). b && true) (and-true (mayStand e)) ∙ and-true (mayStand e)))
+  led-once : (x y z : List Mark) (g : ℕ → List Mark) → x ≡ g e → y ≡ g f → z ≡ g h → (i p c : Bool) → T (eqb (one i + one p + one c) 1)
+      → g (followed e f h p c) ≡ onlyIf i x ++ (onlyIf p y ++ onlyIf c z)
+  unfolding followed onlyIf one
+  led-once x y z g ex ey ez true true true t = absurd t
+  led-once x y z g ex ey ez true true false t = absurd t
+  led-once x y z g ex ey ez true false true t = absurd t
+  led-once x y z g ex ey ez true false false t = sym ex ∙ sym (append-nil x)
+  led-once x y z g ex ey ez false true true t = absurd t
+  led-once x y z g ex ey ez false true false t = sym ey ∙ sym (append-nil y)
+  led-once x y z g ex ey ez false false true t = sym ez
+  led-once x y z g ex ey ez false false false t = absurd t
 
 append-three : (a b c d : List Mark) → (a ++ (b ++ c)) ++ d ≡ a ++ (b ++ (c ++ d))
 append-three a b c d = simp append-assoc
@@ -135,26 +144,19 @@ pub record Found (kind o : ℕ) (ks : List Mark) (i p c : Bool) : Type 0 where
   pub pendingly : p ≡ marked pending o ks
   pub closingly : c ≡ marked closing o ks
 
-pub found-other : (kind o : ℕ) (ks : List Mark) (i p c : Bool) → eqb kind 1 ≡ false → MarkedHere i p c o ks → Found kind o ks i p c
-found-other kind o ks i p c n h = record {
-  idly = h .idly ∙ sym (ap (λ (t : Bool). marked idle o ks || t) n ∙ or-false (marked idle o ks));
-  pendingly = h .pendingly;
-  closingly = h .closingly;
-}
-
 module _ (s : Step) (kind first second : ℕ) (tells : (m : Mode) → Tells kind first second s m)
     (o : ℕ) (ks : List Mark) (i p c : Bool) (f : Found kind o ks i p c) where
-  in-idle : i ≡ reachedBy ks idle o s
+  idly-reached : i ≡ reachedBy ks idle o s
   unfolding reachedBy isIdle
-  in-idle = f .idly ∙ ap (λ (t : Bool). marked idle o ks || t) (sym (tells idle .next))
+  idly-reached = f .idly ∙ ap (λ (t : Bool). marked idle o ks || t) (sym (tells idle .next))
 
-  in-pending : p ≡ reachedBy ks pending o s
+  pendingly-reached : p ≡ reachedBy ks pending o s
   unfolding reachedBy isIdle
-  in-pending = f .pendingly ∙ sym (or-false (marked pending o ks))
+  pendingly-reached = f .pendingly ∙ sym (or-false (marked pending o ks))
 
-  in-closing : c ≡ reachedBy ks closing o s
+  closingly-reached : c ≡ reachedBy ks closing o s
   unfolding reachedBy isIdle
-  in-closing = f .closingly ∙ sym (or-false (marked closing o ks))
+  closingly-reached = f .closingly ∙ sym (or-false (marked closing o ks))
 
   led : (m : Mode) (x : Bool) → x ≡ reachedBy ks m o s
       → onlyIf x (ledBy (entryAt kind (modeNumber m)) first second) ≡ leadsIf (reachedBy ks m o s) s m
@@ -169,34 +171,22 @@ module _ (s : Step) (kind first second : ℕ) (tells : (m : Mode) → Tells kind
       → Adds before after (onlyIf i (ledBy (entryAt kind 0) first second)
       ++ (onlyIf p (ledBy (entryAt kind 1) first second) ++ onlyIf c (ledBy (entryAt kind 2) first second)))
       → Agrees before ks → Agrees after (stepped o s ks)
-  unfolding stepped Adds modeNumber
+  unfolding stepped modeNumber
   lead-law before after x g =
-      let u = led idle i in-idle in let v = led pending p in-pending in let w = led closing c in-closing in
+      let u = led idle i idly-reached in let v = led pending p pendingly-reached in let w = led closing c closingly-reached in
       subst (λ (l : List Mark). Agrees after l)
       (append-three (onlyIf i (ledBy (entryAt kind 0) first second)) (onlyIf p (ledBy (entryAt kind 1) first second))
-      (onlyIf c (ledBy (entryAt kind 2) first second)) ks ∙ (λ j. u j ++ (v j ++ (w j ++ ks)))) (x ks g)
+      (onlyIf c (ledBy (entryAt kind 2) first second)) ks ∙ (λ j. u j ++ (v j ++ (w j ++ ks)))) (adds-agree before after _ ks x g)
 
   fits-law : fitsIn (entryAt kind 0) (entryAt kind 1) (entryAt kind 2) i p c ≡ modeFits ks o s
   unfolding modeFits modeNumber fitsIn
   fits-law =
-      let x = in-idle in let y = in-pending in let z = in-closing in
+      let x = idly-reached in let y = pendingly-reached in let z = closingly-reached in
       let a = sym (tells idle .may) in let b = sym (tells pending .may) in let d = sym (tells closing .may) in
       and-four (eqb (one i + one p + one c) 1) (not i || mayStand (entryAt kind 0)) (not p || mayStand (entryAt kind 1)) (not c || mayStand (entryAt kind 2))
       ∙ (λ j. eqb (one (x j) + one (y j) + one (z j)) 1 && (not (x j) || a j) && (not (y j) || b j) && (not (z j) || d j))
 
-  -- the entries as they were read
-  module _ {e₀ e₁ e₂ : ℕ} (q₀ : e₀ ≡ entryAt kind 0) (q₁ : e₁ ≡ entryAt kind 1) (q₂ : e₂ ≡ entryAt kind 2) (before : Marks) (r : Led)
-      (x : T (r .fits) → Adds before (r .marks) (onlyIf i (ledBy e₀ first second) ++ (onlyIf p (ledBy e₁ first second) ++ onlyIf c (ledBy e₂ first second))))
-      (g : Agrees before ks) where
-    marks-after : T (r .fits) → Agrees (r .marks) (stepped o s ks)
-    marks-after t =
-        lead-law before (r .marks) (subst (λ (l : List Mark). Adds before (r .marks) l)
-        (λ j. onlyIf i (ledBy (q₀ j) first second) ++ (onlyIf p (ledBy (q₁ j) first second) ++ onlyIf c (ledBy (q₂ j) first second))) (x t)) g
-
-    pub led-law : r .fits ≡ fitsIn e₀ e₁ e₂ i p c → StepLed o s ks r
-    led-law e = record { marks = marks-after; test = e ∙ (λ j. fitsIn (q₀ j) (q₁ j) (q₂ j) i p c) ∙ fits-law }
-
--- ---- a step as it was met: its targets as they were handed on
+-- ---- a step as it was met
 
 pub none-inside : T (every (λ (u : ℕ). ltb u 64) [])
 unfolding every
@@ -211,23 +201,57 @@ unfolding every
 two-inside t d h g = and-intro (ltb t 64) (ltb d 64 && true) (lt→ltb t 64 h) (and-intro (ltb d 64) true (lt→ltb d 64 g) tt)
 
 module _ (s : Step) (kind first second : ℕ) (tells : (m : Mode) → Tells kind first second s m) where
-  pub room-met : T (every (λ t. ltb t 64) (targets s)) → {x y : ℕ} → x ≡ first → y ≡ second → (m : Mode) (e : ℕ) → e ≡ entryAt kind (modeNumber m) → T (roomFor (ledBy e x y))
-  room-met h {x} {y} p q m e w = subst₂ (λ (a b : ℕ). T (roomFor (ledBy e a b))) (sym p) (sym q) (room-step s m kind first second e (tells m) h w)
+  pub room-met : T (every (λ t. ltb t 64) (targets s)) → (m : Mode) (e : ℕ) → e ≡ entryAt kind (modeNumber m) → T (roomFor (ledBy e first second))
+  room-met h m e w = room-step s m kind first second e (tells m) h w
 
-  pub led-met : (o : ℕ) (ks : List Mark) → eqb kind 1 ≡ false → {i p c : Bool} → MarkedHere i p c o ks → {x y : ℕ} → x ≡ first → y ≡ second
-      → {e₀ e₁ e₂ : ℕ} → e₀ ≡ entryAt kind 0 → e₁ ≡ entryAt kind 1 → e₂ ≡ entryAt kind 2 → (before : Marks) (r : Led)
-      → (T (r .fits) → Adds before (r .marks) (onlyIf i (ledBy e₀ x y) ++ (onlyIf p (ledBy e₁ x y) ++ onlyIf c (ledBy e₂ x y)))) → Agrees before ks
-      → r .fits ≡ fitsIn e₀ e₁ e₂ i p c → StepLed o s ks r
-  led-met o ks n {i} {p} {c} here {x} {y} ex ey {e₀} {e₁} {e₂} q₀ q₁ q₂ before r adds g fits =
-      led-law s kind first second tells o ks i p c (found-other kind o ks i p c n here) q₀ q₁ q₂ before r
-      (λ t. subst₂ (λ (a b : ℕ). Adds before (r .marks) (onlyIf i (ledBy e₀ a b) ++ (onlyIf p (ledBy e₁ a b) ++ onlyIf c (ledBy e₂ a b)))) ex ey (adds t)) g fits
+  -- an entry's marks lie at targets
+  led-aside : (n : Mode) (before after : Marks) → Adds before after (ledBy (entryAt kind (modeNumber n)) first second) → Aside s before after
+  unfolding Adds Aside marked
+  led-aside n before after a m q l d =
+      a m q l ∙ ap (λ (b : Bool). b || has (word before m) q)
+      (ap (marked m q) (sym (tells n .led) ∙ sym (append-nil (leads s n))) ∙ leads-elsewhere q m s d n [])
+
+  pub aside-by : (n : Mode) {e : ℕ} → e ≡ entryAt kind (modeNumber n) → (before after : Marks) → Adds before after (ledBy e first second) → Aside s before after
+  aside-by n q before after a = led-aside n before after (subst (λ (x : ℕ). Adds before after (ledBy x first second)) q a)
+
+  -- the entries as they were read
+  pub led-met : (o : ℕ) → o < 64 → eqb kind 1 ≡ false → {e₀ e₁ e₂ : ℕ} → e₀ ≡ entryAt kind 0 → e₁ ≡ entryAt kind 1 → e₂ ≡ entryAt kind 2 → (seen : Marks) (r : Led)
+      → LedBy (followed e₀ e₁ e₂ (has (seen .pending) o) (has (seen .closing) o)) first second seen r → StepLed o s seen r
+  unfolding onceAt word modeNumber followed
+  led-met o l n {e₀} {e₁} {e₂} q₀ q₁ q₂ seen r d = record { test = test; marks = marks; aside = aside p c refl refl }
+    where
+      i : Bool
+      i = has (seen .idle) o || isNext s
+
+      p : Bool
+      p = has (seen .pending) o
+
+      c : Bool
+      c = has (seen .closing) o
+
+      found : (ks : List Mark) → Agrees seen ks → Found kind o ks i p c
+      found ks g = record { idly = (λ j. g .at idle o l j || tells idle .next j); pendingly = g .at pending o l; closingly = g .at closing o l }
+
+      entry : followed e₀ e₁ e₂ p c ≡ followed (entryAt kind 0) (entryAt kind 1) (entryAt kind 2) p c
+      entry = λ j. followed (q₀ j) (q₁ j) (q₂ j) p c
+
+      test : (ks : List Mark) → Agrees seen ks → T (onceAt seen o s) → r .fits ≡ modeFits ks o s
+      test ks g t =
+          d .test ∙ ap mayStand entry ∙ fits-once (entryAt kind 0) (entryAt kind 1) (entryAt kind 2) i p c t
+          ∙ fits-law s kind first second tells o ks i p c (found ks g)
+
+      marks : (ks : List Mark) → Agrees seen ks → T (onceAt seen o s) → Agrees (r .marks) (stepped o s ks)
+      marks ks g t =
+          lead-law s kind first second tells o ks i p c (found ks g) seen (r .marks)
+          (subst (Adds seen (r .marks)) (ap (λ (e : ℕ). ledBy e first second) entry
+          ∙ led-once (entryAt kind 0) (entryAt kind 1) (entryAt kind 2) _ _ _ (λ e. ledBy e first second) refl refl refl i p c t) (d .adds)) g
+
+      aside : (a b : Bool) → p ≡ a → c ≡ b → Aside s seen (r .marks)
+      aside true b x y = aside-by pending (ap (λ (t : Bool). followed e₀ e₁ e₂ t c) x ∙ q₁) seen (r .marks) (d .adds)
+      aside false true x y = aside-by closing ((λ j. followed e₀ e₁ e₂ (x j) (y j)) ∙ q₂) seen (r .marks) (d .adds)
+      aside false false x y = aside-by idle ((λ j. followed e₀ e₁ e₂ (x j) (y j)) ∙ q₀) seen (r .marks) (d .adds)
 
 -- ---- a next: it leads to the same in every mode, so that what it leads to idle is all
-
-marked-both : (m : Mode) (o : ℕ) (xs ys : List Mark) → marked m o (xs ++ ys) ≡ (marked m o xs || marked m o ys)
-unfolding marked
-marked-both m o [] ys = refl
-marked-both m o (k ∷ xs) ys = ap (λ (b : Bool). (sameMode m (k .mode) && eqb o (k .offset)) || b) (marked-both m o xs ys) ∙ sym (or-assoc (sameMode m (k .mode) && eqb o (k .offset)) (marked m o xs) (marked m o ys))
 
 -- marks that are there already
 again : (m : Mode) (o : ℕ) (xs ys : List Mark) → marked m o (xs ++ (xs ++ ys)) ≡ marked m o (xs ++ ys)

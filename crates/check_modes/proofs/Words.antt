@@ -1,20 +1,24 @@
--- The marks in their words: what the first mark, one mark more and a look at one offset are. Whatever opens `Agrees` is here.
-use Prim.Native.Nat.{ℕ, _*_, _%_, _^_, _<_}
-use native.Mathlib.Nat.{one-mul}
+-- The marks in their words: what the first mark and one mark more are; and the word of the lowest offsets.
+use Prim.Native.Nat.{ℕ, _+_, _-_, _*_, _/_, _%_, _^_, _≤_, _<_}
+use native.Mathlib.Nat.{one-mul, zero-add, zero-div}
 use native.Mathlib.Omega.{arith}
 use mathlib.Core.Path.{_≡_, refl, sym, ap, _∙_, subst}
-use mathlib.Core.Bool.{Bool, false, _&&_, _||_, or-comm}
+use mathlib.Core.Bool.{Bool, false, _&&_, _||_, or-comm, or-false}
 use mathlib.Core.List.{List, [], _∷_}
-use lib.Dec.{T, eqb, eqb→eq, lit<}
-use lib.Pow.{shl-exact}
-use borrow.Author.Tests.{le-leb, eq-eqb}
+use mathlib.Core.Logic.{⊎-elim}
+use lib.Dec.{T, eqb, ltb, eqb→eq, lit<}
+use lib.Pow.{shl-exact, shr-shr}
+use borrow.Author.Tests.{le-leb, eq-eqb, lt-ltb, le-ltb}
 use Rattle.actions.specs.Sets.{ActionSet, isAction, has, EMPTY, single, union}
 use Rattle.actions.proofs.Tests.{of-yes, both}
-use Rattle.actions.proofs.SetLaws.{has-empty, single-action, has-single, has-union}
+use Rattle.actions.proofs.SetLaws.{has-action, has-none, has-empty, single-action, has-single, has-union}
+use Rattle.spec_policy.specs.Lists.{listed, every}
+use Rattle.spec_policy.proofs.ListLaws.{listed-length, listed-at, every-at}
+use Rattle.spec_check.proofs.Ahead.{in-or-out}
 use Rattle.spec_check.specs.Modes.{Mode, idle, pending, closing, isIdle, isPending, isClosing, sameMode, Mark, marked}
 use Rattle.check_modes.specs.declared.Marks.{Marks}
 use Rattle.check_modes.specs.Table.{modeNumber, reaching}
-use Rattle.check_modes.specs.Marks.{word, Agrees, Adds, MarkedHere}
+use Rattle.check_modes.specs.Marks.{word, Agrees, Adds}
 
 -- ---- one bit
 
@@ -64,7 +68,7 @@ unfolding Adds marked reaching modeNumber
 joined-adds w n s mode o e f = subst (λ (k : ℕ). Adds w (joined w n s) (reaching k o)) (sym e) (go n)
   where
     one-more : (n : Mode) → Adds w (joined w n s) (record { mode = n; offset = o } ∷ [])
-    one-more n ks g = record { at = λ m p h. has-joined w n m s p ∙ (λ j. (sameMode m n && f p j) || g .at m p h j) }
+    one-more n m p h = has-joined w n m s p ∙ ap (λ (b : Bool). (sameMode m n && b) || has (word w m) p) (f p) ∙ ap (λ (b : Bool). b || has (word w m) p) (sym (or-false (sameMode m n && eqb p o)))
 
     go : (n : Mode) → Adds w (joined w n s) (reaching (modeNumber n) o)
     go idle = one-more idle
@@ -81,9 +85,32 @@ first-agrees = record { at = at }
     at pending o h = has-empty o
     at closing o h = has-empty o
 
--- ---- a look at one offset
+-- ---- the lowest ones
 
-pub read-here : (w : Marks) (o : ℕ) (ks : List Mark) (i p c : Bool) → o < 64 → i ≡ has (w .idle) o → p ≡ has (w .pending) o → c ≡ has (w .closing) o
-    → Agrees w ks → MarkedHere i p c o ks
-unfolding word
-read-here w o ks i p c h x y z g = record { idly = x ∙ g .at idle o h; pendingly = y ∙ g .at pending o h; closingly = z ∙ g .at closing o h }
+-- each of 64 bits, one by one
+all-ones : (k : ℕ) → k < 64 → 18446744073709551615 / 2 ^ k % 2 ≡ 1
+unfolding every listed
+all-ones k h = eqb→eq (18446744073709551615 / 2 ^ k % 2) 1 (subst (λ (n : ℕ). T (eqb (18446744073709551615 / 2 ^ n % 2) 1)) (listed-at (λ j. j) 0 64 0 k h ∙ zero-add k)
+    (every-at (λ j. eqb (18446744073709551615 / 2 ^ j % 2) 1) (listed (λ j. j) 0 64) 0 tt k (omega (arith, h, listed-length {A = ℕ} (λ j. j) 0 64))))
+
+pub low-ones : (count : ℕ) → count ≤ 64 → (q : ℕ) → has (18446744073709551615 / 2 ^ (64 - count)) q ≡ ltb q count
+low-ones count h q = ⊎-elim inside outside (in-or-out count q)
+  where
+    inside : q < count → has (18446744073709551615 / 2 ^ (64 - count)) q ≡ ltb q count
+    inside l =
+        has-action _ q (omega arith) ∙ ap (λ (x : ℕ). eqb (x % 2) 1) (shr-shr 18446744073709551615 (64 - count) q)
+        ∙ ap (λ (x : ℕ). eqb x 1) (all-ones (64 - count + q) (omega arith)) ∙ sym (lt-ltb q count l)
+
+    outside : count ≤ q → has (18446744073709551615 / 2 ^ (64 - count)) q ≡ ltb q count
+    outside l = ⊎-elim zeros above (in-or-out 64 q)
+      where
+        small : 18446744073709551615 / 2 ^ (64 - count) / 2 ^ q ≡ 0
+        small = let z : 64 - count + q ≡ 64 + (q - count) = omega arith in
+            shr-shr 18446744073709551615 (64 - count) q ∙ ap (λ (k : ℕ). 18446744073709551615 / 2 ^ k) z
+            ∙ sym (shr-shr 18446744073709551615 64 (q - count)) ∙ zero-div (2 ^ (q - count))
+
+        zeros : q < 64 → has (18446744073709551615 / 2 ^ (64 - count)) q ≡ ltb q count
+        zeros m = has-action _ q (omega arith) ∙ ap (λ (x : ℕ). eqb (x % 2) 1) small ∙ sym (le-ltb q count l)
+
+        above : 64 ≤ q → has (18446744073709551615 / 2 ^ (64 - count)) q ≡ ltb q count
+        above m = has-none _ q (omega arith) ∙ sym (le-ltb q count l)

@@ -2,16 +2,16 @@
 use Prim.Native.Nat.{ℕ, _+_, _<_}
 use mathlib.Core.Path.{_≡_}
 use mathlib.Core.Bool.{Bool, true, false, _&&_, _||_, not}
-use mathlib.Core.List.{List, [], _++_}
+use mathlib.Core.List.{List, [], List·Memᴰ}
 use lib.Dec.{T, eqb, ltb}
 use lib.ListN.{getD}
 use Rattle.actions.specs.Sets.{ActionSet, has}
 use Rattle.spec_policy.specs.Lists.{one, every, everyAt}
-use Rattle.spec_policy.specs.Steps.{Step, halt, isNext}
+use Rattle.spec_policy.specs.Steps.{Step, halt, targets, isNext}
 use Rattle.spec_check.specs.Modes.{Mode, idle, pending, closing, Mark, marked, stepped, marks, modeFits}
 use Rattle.check_modes.specs.declared.Marks.{Marks}
 use Rattle.check_modes.specs.declared.Led.{Led}
-use Rattle.check_modes.specs.Table.{mayStand}
+use Rattle.check_modes.specs.Table.{ledBy, mayStand}
 
 -- 64 offsets, as an action set is 64 actions
 unfoldable pub word : Marks → Mode → ActionSet
@@ -25,7 +25,11 @@ pub record Agrees (w : Marks) (ks : List Mark) : Type 0 where
 
 -- the words `after` mark what the words `before` mark, and these
 unfoldable pub Adds : Marks → Marks → List Mark → Type 0
-Adds before after new = (ks : List Mark) → Agrees before ks → Agrees after (new ++ ks)
+Adds before after new = (m : Mode) (o : ℕ) → o < 64 → has (word after m) o ≡ (marked m o new || has (word before m) o)
+
+-- what is no target of the step is marked as before
+unfoldable pub Aside : Step → Marks → Marks → Type 0
+Aside s before after = (m : Mode) (o : ℕ) → o < 64 → (List·Memᴰ o (targets s) → ⊥) → has (word after m) o ≡ has (word before m) o
 
 -- marks that the words have room for
 unfoldable pub roomFor : List Mark → Bool
@@ -46,10 +50,29 @@ pub record MarkedHere (i p c : Bool) (o : ℕ) (ks : List Mark) : Type 0 where
 unfoldable pub fitsIn : (idle pending closing : ℕ) (i p c : Bool) → Bool
 fitsIn e f g i p c = ((eqb (one i + one p + one c) 1 && (not i || mayStand e)) && (not p || mayStand f)) && (not c || mayStand g)
 
--- What the walk has of the step at o, which is no next, by the marks before it: its test, and, where that holds, the marks after it.
-pub record StepLed (o : ℕ) (s : Step) (ks : List Mark) (r : Led) : Type 0 where
-  pub test : r .fits ≡ modeFits ks o s
-  pub marks : T (r .fits) → Agrees (r .marks) (stepped o s ks)
+-- Of a kind's entries in the three modes, the one that is followed where the step's offset is marked pending, closing, or neither.
+unfoldable pub followed : (idle pending closing : ℕ) (p c : Bool) → ℕ
+followed e f g true c = f
+followed e f g false true = g
+followed e f g false false = e
+
+-- what a step has that is reached in the mode whose entry is e
+pub record LedBy (e first second : ℕ) (seen : Marks) (r : Led) : Type 0 where
+  pub adds : Adds seen (r .marks) (ledBy e first second)
+  pub test : r .fits ≡ mayStand e
+
+-- By the words, the step at o is reached in one mode. A next counts as reached idle.
+unfoldable pub onceAt : Marks → ℕ → Step → Bool
+onceAt w o s = eqb (one (has (w .idle) o || isNext s) + one (has (w .pending) o) + one (has (w .closing) o)) 1
+
+unfoldable pub allOnce : Marks → List Step → Bool
+allOnce w code = everyAt (onceAt w) 0 code
+
+-- What the walk has of the step at o, which is no next. Where it is reached in one mode: its test, and the marks after it.
+pub record StepLed (o : ℕ) (s : Step) (seen : Marks) (r : Led) : Type 0 where
+  pub test : (ks : List Mark) → Agrees seen ks → T (onceAt seen o s) → r .fits ≡ modeFits ks o s
+  pub marks : (ks : List Mark) → Agrees seen ks → T (onceAt seen o s) → Agrees (r .marks) (stepped o s ks)
+  pub aside : Aside s seen (r .marks)
 
 -- Rule 7 in two parts: of the steps that are no next, and of the nexts. A step may lead back to a next alone, so when the walk comes to
 -- any other step its marks are all made.

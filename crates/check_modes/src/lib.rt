@@ -1,23 +1,22 @@
-// Rule 7, the mode rule: one walk through a leaf's steps marks the modes in which each is reached and holds each to the table. A step may
-// lead back to a next alone, so only the nexts are looked at again.
+// Rule 7, the mode rule: one walk through a leaf's steps marks the modes in which each is reached and holds each to the table. At its end all are
+// asked at once whether they are reached in one mode.
 ghost use mathlib.Core.Path.{_≡_};
-ghost use mathlib.Core.Bool.{false};
-ghost use mathlib.Core.List.{List, _++_};
-ghost use Prim.Native.Nat.{ℕ, _+_, _*_, _≤_, _<_};
+ghost use mathlib.Core.List.{List};
+ghost use Prim.Native.Nat.{ℕ, _≤_, _<_};
 ghost use lib.Dec.{T, eqb, ltb};
 ghost use lib.ListN.{length};
 ghost use Rattle.actions.specs.Sets.{has};
-ghost use Rattle.spec_policy.specs.Lists.{every};
 ghost use Rattle.spec_policy.specs.Steps.{Step, next, ok, sup, ins, acase, spend, end, halt};
-ghost use Rattle.spec_check.specs.Modes.{Mark, marks, stepped};
+ghost use Rattle.spec_check.specs.Modes.{Mark, stepped};
 ghost use Rattle.check_modes.specs.Table.{entryAt, reaching, mayStand, ledBy};
-ghost use Rattle.check_modes.specs.Marks.{Agrees, Adds, roomFor, onlyIf, MarkedHere, fitsIn, StepLed, NextsAre, nextsFit};
+ghost use Rattle.check_modes.specs.Marks.{Agrees, Adds, Aside, roomFor, followed, LedBy, StepLed, NextsAre, allOnce};
 ghost use Rattle.spec_policy.specs.Records.{mostLeafSteps};
 use actions::ActionSet;
 use file_records::ACASE;
 use file_records::END;
 use file_records::HALT;
 use file_records::INS;
+use file_records::MOST_LEAF_STEPS;
 use file_records::NEXT;
 use file_records::OK;
 use file_records::SPEND;
@@ -86,24 +85,6 @@ pub fn only_bit(o: usize) -> u64
     1u64 << o
 }
 
-// The modes in which one offset is marked.
-struct Here {
-    idle: bool,
-    pending: bool,
-    closing: bool,
-}
-
-fn marks_at(seen: Marks, o: usize) -> Here
-    requires { ⌜ o < mostLeafSteps ⌝ }
-    ensures { λ r. ⌜ ((ks : List Mark) → Agrees seen ks → MarkedHere (r .idle) (r .pending) (r .closing) o ks) ⌝ }
-{
-    Here {
-        idle: has_bit(seen.idle, o),
-        pending: has_bit(seen.pending, o),
-        closing: has_bit(seen.closing, o),
-    }
-}
-
 // Marks a target of a step; in mode 3 the step does not have it. The mode comes from the table by a constant number, so that a compiler
 // knows the arm.
 fn reach(seen: Marks, mode: u8, o: usize) -> Marks
@@ -138,23 +119,16 @@ fn stands(e: u8) -> bool
     e / 16 == 1
 }
 
-// A step as the walk meets it: the marks of its offset, and its two targets.
-struct Met {
-    here: Here,
-    first: usize,
-    second: usize,
-}
-
-// What the walk has of a step: the marks after it, and whether it fits.
+// What the walk has of a step: the marks after it, and whether it may stand where it is reached.
 pub struct Led {
     pub marks: Marks,
     pub fits: bool,
 }
 
-// A step that is reached in the mode whose entry is e, and in no other: marks what it leads to. It fits if it may stand there.
+// A step that is reached in the mode whose entry is e: marks what it leads to. It fits if it may stand there.
 fn lead_in(e: u8, first: usize, second: usize, seen: Marks) -> Led
     requires { ⌜ T (roomFor (ledBy e first second)) ⌝ }
-    ensures { λ r. ⌜ Adds seen (r .marks) (ledBy e first second) × (r .fits ≡ mayStand e) ⌝ }
+    ensures { λ r. ⌜ LedBy e first second seen r ⌝ }
 {
     let after = reach(seen, e % 4, second);
     let marks = reach(after, e / 4 % 4, first);
@@ -164,62 +138,36 @@ fn lead_in(e: u8, first: usize, second: usize, seen: Marks) -> Led
     }
 }
 
-// A step that is reached in two modes, or in none.
-fn lost(seen: Marks) -> Led
-    ensures { λ r. ⌜ r .fits ≡ false ⌝ }
+// The entries are those of the step's kind in each mode. One mode is followed: that in which the step at o is reached, if there is one and no
+// other. Whether that is so of every step is asked at the end of the walk, of all at once (`each_once`).
+fn lead_by(
+    idle: u8,
+    pending: u8,
+    closing: u8,
+    o: usize,
+    first: usize,
+    second: usize,
+    seen: Marks,
+) -> Led
+    requires { ⌜ (o < mostLeafSteps) × T (roomFor (ledBy idle first second)) × T (roomFor (ledBy pending first second)) × T (roomFor (ledBy closing first second)) ⌝ }
+    ensures { λ r. ⌜ LedBy (followed idle pending closing (has (seen .pending) o) (has (seen .closing) o)) first second seen r ⌝ }
 {
-    Led {
-        marks: seen,
-        fits: false,
+    if has_bit(seen.pending, o) {
+        return lead_in(pending, first, second, seen);
     }
-}
-
-// The entries are those of the step's kind in each mode. It fits if it is reached in one mode, and may stand there; only that mode is followed.
-fn lead_by(idle: u8, pending: u8, closing: u8, met: Met, seen: Marks) -> Led
-    requires { ⌜ T (roomFor (ledBy idle (met .first) (met .second))) × T (roomFor (ledBy pending (met .first) (met .second)))
-        × T (roomFor (ledBy closing (met .first) (met .second))) ⌝ }
-    ensures { λ r. ⌜ r .fits ≡ fitsIn idle pending closing (met .here .idle) (met .here .pending) (met .here .closing) ⌝ }
-    ensures { λ r. ⌜ (T (r .fits) → Adds seen (r .marks) (onlyIf (met .here .idle) (ledBy idle (met .first) (met .second))
-        ++ (onlyIf (met .here .pending) (ledBy pending (met .first) (met .second))
-        ++ onlyIf (met .here .closing) (ledBy closing (met .first) (met .second))))) ⌝ }
-{
-    let here = met.here;
-    if here.pending {
-        if here.idle | here.closing {
-            return lost(seen);
-        }
-        return lead_in(pending, met.first, met.second, seen);
+    if has_bit(seen.closing, o) {
+        return lead_in(closing, first, second, seen);
     }
-    if here.closing {
-        if here.idle {
-            return lost(seen);
-        }
-        return lead_in(closing, met.first, met.second, seen);
-    }
-    if here.idle {
-        return lead_in(idle, met.first, met.second, seen);
-    }
-    lost(seen)
+    lead_in(idle, first, second, seen)
 }
 
 // ---- a step of each kind, held to its row. The entries are asked for by their numbers, so that a compiler knows what they say.
-
-fn at_step(first: usize, second: usize, o: usize, seen: Marks) -> Met
-    requires { ⌜ o < mostLeafSteps ⌝ }
-    ensures { λ r. ⌜ (r .first ≡ first) × (r .second ≡ second) ⌝ }
-    ensures { λ r. ⌜ ((ks : List Mark) → Agrees seen ks → MarkedHere (r .here .idle) (r .here .pending) (r .here .closing) o ks) ⌝ }
-{
-    Met {
-        here: marks_at(seen, o),
-        first,
-        second,
-    }
-}
 
 // Every next counts as reached idle, and leads to the same in every mode. It is not held to anything here: a step may lead back to it.
 pub fn lead_next(take: usize, done: usize, o: usize, seen: Marks) -> Marks
     requires { ⌜ (o < mostLeafSteps) × (take < mostLeafSteps) × (done < mostLeafSteps) ⌝ }
     ensures { λ r. ⌜ ((ks : List Mark) → Agrees seen ks → Agrees r (stepped o (next take done) ks)) ⌝ }
+    ensures { λ r. ⌜ Aside (next take done) seen r ⌝ }
 {
     let led = lead_in(entry(NEXT, IDLE), take, done, seen);
     led.marks
@@ -227,110 +175,133 @@ pub fn lead_next(take: usize, done: usize, o: usize, seen: Marks) -> Marks
 
 pub fn lead_ok(to: usize, o: usize, seen: Marks) -> Led
     requires { ⌜ (o < mostLeafSteps) × (to < mostLeafSteps) ⌝ }
-    ensures { λ r. ⌜ ((ks : List Mark) → Agrees seen ks → StepLed o (ok to) ks r) ⌝ }
+    ensures { λ r. ⌜ StepLed o (ok to) seen r ⌝ }
 {
-    let met = at_step(to, 0, o, seen);
     lead_by(
         entry(OK, IDLE),
         entry(OK, PENDING),
         entry(OK, CLOSING),
-        met,
+        o,
+        to,
+        0,
         seen,
     )
 }
 
 pub fn lead_sup(to: usize, o: usize, seen: Marks) -> Led
     requires { ⌜ (o < mostLeafSteps) × (to < mostLeafSteps) ⌝ }
-    ensures { λ r. ⌜ ((ks : List Mark) → Agrees seen ks → StepLed o (sup to) ks r) ⌝ }
+    ensures { λ r. ⌜ StepLed o (sup to) seen r ⌝ }
 {
-    let met = at_step(to, 0, o, seen);
     lead_by(
         entry(SUP, IDLE),
         entry(SUP, PENDING),
         entry(SUP, CLOSING),
-        met,
+        o,
+        to,
+        0,
         seen,
     )
 }
 
 pub fn lead_ins(to: usize, o: usize, seen: Marks) -> Led
     requires { ⌜ (o < mostLeafSteps) × (to < mostLeafSteps) ⌝ }
-    ensures { λ r. ⌜ ((b : ℕ) (ks : List Mark) → Agrees seen ks → StepLed o (ins b to) ks r) ⌝ }
+    ensures { λ r. ⌜ ((b : ℕ) → StepLed o (ins b to) seen r) ⌝ }
 {
-    let met = at_step(to, 0, o, seen);
     lead_by(
         entry(INS, IDLE),
         entry(INS, PENDING),
         entry(INS, CLOSING),
-        met,
+        o,
+        to,
+        0,
         seen,
     )
 }
 
 pub fn lead_acase(yes: usize, otherwise: usize, o: usize, seen: Marks) -> Led
     requires { ⌜ (o < mostLeafSteps) × (yes < mostLeafSteps) × (otherwise < mostLeafSteps) ⌝ }
-    ensures { λ r. ⌜ ((s : ℕ) (ks : List Mark) → Agrees seen ks → StepLed o (acase s yes otherwise) ks r) ⌝ }
+    ensures { λ r. ⌜ ((s : ℕ) → StepLed o (acase s yes otherwise) seen r) ⌝ }
 {
-    let met = at_step(yes, otherwise, o, seen);
     lead_by(
         entry(ACASE, IDLE),
         entry(ACASE, PENDING),
         entry(ACASE, CLOSING),
-        met,
+        o,
+        yes,
+        otherwise,
         seen,
     )
 }
 
 pub fn lead_spend(yes: usize, otherwise: usize, o: usize, seen: Marks) -> Led
     requires { ⌜ (o < mostLeafSteps) × (yes < mostLeafSteps) × (otherwise < mostLeafSteps) ⌝ }
-    ensures { λ r. ⌜ ((n : ℕ) (ks : List Mark) → Agrees seen ks → StepLed o (spend n yes otherwise) ks r) ⌝ }
+    ensures { λ r. ⌜ ((n : ℕ) → StepLed o (spend n yes otherwise) seen r) ⌝ }
 {
-    let met = at_step(yes, otherwise, o, seen);
     lead_by(
         entry(SPEND, IDLE),
         entry(SPEND, PENDING),
         entry(SPEND, CLOSING),
-        met,
+        o,
+        yes,
+        otherwise,
         seen,
     )
 }
 
 pub fn lead_end(o: usize, seen: Marks) -> Led
     requires { ⌜ o < mostLeafSteps ⌝ }
-    ensures { λ r. ⌜ ((ks : List Mark) → Agrees seen ks → StepLed o end ks r) ⌝ }
+    ensures { λ r. ⌜ StepLed o end seen r ⌝ }
 {
-    let met = at_step(0, 0, o, seen);
     lead_by(
         entry(END, IDLE),
         entry(END, PENDING),
         entry(END, CLOSING),
-        met,
+        o,
+        0,
+        0,
         seen,
     )
 }
 
 pub fn lead_halt(o: usize, seen: Marks) -> Led
     requires { ⌜ o < mostLeafSteps ⌝ }
-    ensures { λ r. ⌜ ((ks : List Mark) → Agrees seen ks → StepLed o halt ks r) ⌝ }
+    ensures { λ r. ⌜ StepLed o halt seen r ⌝ }
 {
-    let met = at_step(0, 0, o, seen);
     lead_by(
         entry(HALT, IDLE),
         entry(HALT, PENDING),
         entry(HALT, CLOSING),
-        met,
+        o,
+        0,
+        0,
         seen,
     )
 }
 
-// ---- the nexts
+// ---- the end of the walk
 
-// By all marks of the leaf: no next is reached in another mode than idle.
-pub fn nexts_fit(nexts: u64, seen: Marks) -> bool
-    ensures { λ r. ⌜ ((code : List Step) → NextsAre nexts code → Agrees seen (marks code) → r ≡ nextsFit code) ⌝ }
+// The word of the offsets below count.
+fn offsets_below(count: usize) -> u64
+    requires { ⌜ (1 ≤ count) × (count ≤ mostLeafSteps) ⌝ }
+    ensures { λ r. ⌜ ((q : ℕ) → has r q ≡ ltb q count) ⌝ }
 {
-    let all = ActionSet { bits: nexts };
-    let pending = ActionSet { bits: seen.pending };
-    let closing = ActionSet { bits: seen.closing };
-    !all.meets(pending) & !all.meets(closing)
+    0xFFFF_FFFF_FFFF_FFFFu64 >> (MOST_LEAF_STEPS - count)
+}
+
+// By all marks of a leaf of so many steps: each is reached in one mode. A next counts as reached idle.
+pub fn each_once(nexts: u64, count: usize, seen: Marks) -> bool
+    requires { ⌜ (1 ≤ count) × (count ≤ mostLeafSteps) ⌝ }
+    ensures { λ r. ⌜ ((code : List Step) → length code ≡ count → NextsAre nexts code → r ≡ allOnce seen code) ⌝ }
+{
+    let all = ActionSet {
+        bits: offsets_below(count),
+    };
+    let idle = seen.idle | nexts;
+    let reached = ActionSet {
+        bits: idle | seen.pending | seen.closing,
+    };
+    let twice = ActionSet {
+        bits: (idle & seen.pending) | (idle & seen.closing) | (seen.pending & seen.closing),
+    };
+    all.within(reached) & !all.meets(twice)
 }

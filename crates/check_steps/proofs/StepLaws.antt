@@ -12,20 +12,20 @@ use borrow.Author.Tests.{lt-ltb, le-ltb, eq-eqb, ne-eqb}
 use Rattle.actions.specs.Sets.{ActionSet, has, EMPTY, union}
 use Rattle.actions.specs.declared.ActionSet.{ActionSet as Set}
 use Rattle.actions.proofs.SetLaws.{union-end, has-union}
-use Rattle.actions.proofs.Tests.{true-not-false, yes-of, of-yes, and-left, and-right, and-true}
+use Rattle.actions.proofs.Tests.{true-not-false, yes-of, and-true}
 use Rattle.spec_policy.specs.Lists.{one}
 use Rattle.spec_policy.specs.Steps.{Step, halt, isNext, isIns}
 use Rattle.spec_check.specs.Possible.{joinAt, passOn, branchesTaken}
 use Rattle.spec_check.specs.Interference.{stepEffects}
 use Rattle.spec_check.specs.Modes.{Mark, stepped, modeFits}
 use Rattle.spec_check.proofs.Ahead.{in-or-out}
-use Rattle.check_modes.specs.Marks.{Agrees, StepLed, NextsBefore}
+use Rattle.check_modes.specs.Marks.{Agrees, Aside, onceAt, StepLed, NextsBefore}
 use Rattle.check_modes.specs.declared.Led.{Led}
 use Rattle.check_modes.specs.declared.Marks.{Marks}
 use Rattle.check_possible.proofs.PossibleLaws.{join-length}
 use Rattle.check_targets.proofs.TargetLaws.{tested, tested-all}
 use Rattle.check_steps.specs.declared.Walk.{Walk}
-use Rattle.check_steps.specs.Met.{Stands, LedOn, Went, Met, Meets}
+use Rattle.check_steps.specs.Met.{Stands, Settled, LedOn, Went, Met, Meets}
 
 -- ---- the nexts before the next offset
 
@@ -58,7 +58,7 @@ module _ (code : List Step) (o : ℕ) {b : Bool} (e : isNext (getD code o halt) 
 pub next-has : (w b : ActionSet) (o : ℕ) → ((p : ℕ) → has b p ≡ (true && eqb p o)) → (q : ℕ) → has (union w b) q ≡ (has w q || (true && eqb q o))
 next-has w b o f q = has-union w b q ∙ ap (λ (t : Bool). has w q || t) (f q)
 
-pub next-past : {code : List Step} {o count : ℕ} {s : Step} {ks : List Mark} {w : Walk} → Stands code o count s ks w → isNext s ≡ true → (b : ActionSet) → ((p : ℕ) → has b p ≡ (true && eqb p o))
+pub next-past : {code : List Step} {o count : ℕ} {s : Step} {w : Walk} → Stands code o count s w → isNext s ≡ true → (b : ActionSet) → ((p : ℕ) → has b p ≡ (true && eqb p o))
     → NextsBefore (o + 1) (union (w .nexts) b) code
 next-past {code} {o} {w = w} st n b f = nexts-on code o (ap isNext (st .here) ∙ n) (w .nexts) (union (w .nexts) b) (st .nexts) (next-has (w .nexts) b o f)
 
@@ -82,7 +82,7 @@ stray-met {code} {r} {o} {s} e f = record { fits = e ∙ sym f ∙ tested-all r 
 
 -- ---- a step that is no next
 
-module _ {code : List Step} {o count : ℕ} {s : Step} {ks : List Mark} {w : Walk} (st : Stands code o count s ks w) (n : isNext s ≡ false) where
+module _ {code : List Step} {o count : ℕ} {s : Step} {w : Walk} (st : Stands code o count s w) (n : isNext s ≡ false) where
   no-next : isNext (getD code o halt) ≡ false
   no-next = ap isNext (st .here) ∙ n
 
@@ -92,27 +92,27 @@ module _ {code : List Step} {o count : ℕ} {s : Step} {ks : List Mark} {w : Wal
   pub nexts-past : NextsBefore (o + 1) (w .nexts) code
   nexts-past = nexts-on code o (ap isNext (st .here)) (w .nexts) (w .nexts) (st .nexts) nexts-same
 
-  module _ {led : Led} (l : (ks : List Mark) → Agrees (w .marks) ks → StepLed o s ks led) where
-    on-modes : (m : Bool) → w .modes ≡ m → (w .modes && led .fits) ≡ (w .modes && (isNext s || modeFits ks o s))
-    on-modes true e =
-        ap (λ (b : Bool). w .modes && b) (l ks (st .agrees (of-yes _ e)) .test ∙ sym (ap (λ (b : Bool). b || modeFits ks o s) n))
-    on-modes false e = ap (λ (b : Bool). b && led .fits) e ∙ sym (ap (λ (b : Bool). b && (isNext s || modeFits ks o s)) e)
+  module _ {led : Led} (l : StepLed o s (w .marks) led) where
+    once-here : Settled w o s → T (onceAt (w .marks) o s)
+    once-here t = subst (λ (b : Bool). T (b || onceAt (w .marks) o s)) n t
 
-    pub modes-on : {m : Bool} → m ≡ (w .modes && led .fits) → m ≡ (w .modes && (isNext s || modeFits ks o s))
-    modes-on e = e ∙ on-modes (w .modes) refl
+    modes-on : {ks : List Mark} {m : Bool} → m ≡ (w .modes && led .fits) → Agrees (w .marks) ks → Settled w o s → m ≡ (w .modes && (isNext s || modeFits ks o s))
+    modes-on {ks} e g t = e ∙ ap (λ (b : Bool). w .modes && b) (l .test ks g (once-here t) ∙ sym (ap (λ (b : Bool). b || modeFits ks o s) n))
 
-    pub marks-on : {m : Bool} {x : Marks} → m ≡ (w .modes && led .fits) → x ≡ led .marks → T m → Agrees x (stepped o s ks)
-    marks-on {m} {x} e f t =
-        let u = subst T e t in
-        subst (λ (y : Marks). Agrees y (stepped o s ks)) (sym f) (l ks (st .agrees (and-left (w .modes) (led .fits) u)) .marks (and-right (w .modes) (led .fits) u))
+    marks-on : {ks : List Mark} {x : Marks} → x ≡ led .marks → Agrees (w .marks) ks → Settled w o s → Agrees x (stepped o s ks)
+    marks-on {ks} e g t = subst (λ (y : Marks). Agrees y (stepped o s ks)) (sym e) (l .marks ks g (once-here t))
+
+    aside-on : {x : Marks} → x ≡ led .marks → Aside s (w .marks) x
+    aside-on e = subst (Aside s (w .marks)) (sym e) (l .aside)
 
     -- what the walk has then, in the parts that the code gives
-    pub went-by : {r : ActionSet} {ps qs : List ActionSet} (x : Walk) → x .modes ≡ (w .modes && led .fits) → x .marks ≡ led .marks
+    pub went-by : {r : ActionSet} {ks : List Mark} {ps qs : List ActionSet} (x : Walk) → x .modes ≡ (w .modes && led .fits) → x .marks ≡ led .marks
         → x .taken ≡ (w .taken && branchesTaken (getD ps o EMPTY ∷ []) 0 s) → x .effects .bits ≡ union (w .effects .bits) (stepEffects (getD ps o EMPTY) s)
         → x .inserts ≡ w .inserts + one (isIns s) → x .nexts ≡ w .nexts → qs ≡ passOn r s (getD ps o EMPTY) ps → Went r o s ks w x ps qs
     went-by x em ek et ee ei en ep = record {
       modes = modes-on em;
-      marks = marks-on em ek;
+      marks = marks-on ek;
+      aside = aside-on ek;
       taken = et;
       effects = ee;
       inserts = ei;
@@ -121,7 +121,7 @@ module _ {code : List Step} {o count : ℕ} {s : Step} {ks : List Mark} {w : Wal
     }
 
     -- of a step with no effect, no branches and no insert
-    pub plain-went : {r : ActionSet} {ps qs : List ActionSet} {x : Walk} → LedOn w led x → stepEffects (getD ps o EMPTY) s ≡ EMPTY
+    pub plain-went : {r : ActionSet} {ks : List Mark} {ps qs : List ActionSet} {x : Walk} → LedOn w led x → stepEffects (getD ps o EMPTY) s ≡ EMPTY
         → branchesTaken (getD ps o EMPTY ∷ []) 0 s ≡ true → isIns s ≡ false → qs ≡ passOn r s (getD ps o EMPTY) ps → Went r o s ks w x ps qs
     unfolding one
     plain-went {x = x} d e b i p = went-by x (d .modes) (d .marks)

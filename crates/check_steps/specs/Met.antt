@@ -12,7 +12,7 @@ use Rattle.spec_check.specs.Targets.{targetFits, asksWithin}
 use Rattle.spec_check.specs.Modes.{Mark, stepped, modeFits}
 use Rattle.spec_check.specs.Possible.{passOn, branchesTaken}
 use Rattle.spec_check.specs.Interference.{stepEffects}
-use Rattle.check_modes.specs.Marks.{Agrees, NextsBefore}
+use Rattle.check_modes.specs.Marks.{Agrees, Aside, onceAt, NextsBefore}
 use Rattle.check_modes.specs.declared.Led.{Led}
 use Rattle.check_steps.specs.declared.Walk.{Walk}
 
@@ -23,18 +23,22 @@ Asks w o count = (o < count) × ((count ≤ 64) × (w .inserts ≤ 64))
 abbrev pub AsksAll : Walk → ℕ → ℕ → List ActionSet → Type 0
 AsksAll w o count sets = Asks w o count × (length sets ≡ 64)
 
--- The walk w stands at offset o of the code, whose step is s, with the marks ks: its words say them as long as rule 7 was kept.
-pub record Stands (code : List Step) (o count : ℕ) (s : Step) (ks : List Mark) (w : Walk) : Type 0 where
+-- The walk w stands at offset o of the code, whose step is s.
+pub record Stands (code : List Step) (o count : ℕ) (s : Step) (w : Walk) : Type 0 where
   pub size : length code ≡ count
   pub here : getD code o halt ≡ s
-  pub agrees : T (w .modes) → Agrees (w .marks) ks
   pub nexts : NextsBefore o (w .nexts) code
 
--- What the walk has after a step that keeps rule 6: rule 7 of it, unless it is a next, and where that was always kept the marks; rule 8; its
--- effects and whether it is an ins; the nexts; and what is possible then.
+-- a next, or by the words reached in one mode
+abbrev pub Settled : Walk → ℕ → Step → Type 0
+Settled w o s = T (isNext s || onceAt (w .marks) o s)
+
+-- What the walk has after a step that keeps rule 6. Where its words say the marks ks, and it is settled: rule 7 of it, unless it is a next, and the
+-- marks. In any case: no mark but at its targets; rule 8; its effects and whether it is an ins; the nexts; and what is possible then.
 pub record Went (r : ActionSet) (o : ℕ) (s : Step) (ks : List Mark) (w w′ : Walk) (sets sets′ : List ActionSet) : Type 0 where
-  pub modes : w′ .modes ≡ (w .modes && (isNext s || modeFits ks o s))
-  pub marks : T (w′ .modes) → Agrees (w′ .marks) (stepped o s ks)
+  pub modes : Agrees (w .marks) ks → Settled w o s → w′ .modes ≡ (w .modes && (isNext s || modeFits ks o s))
+  pub marks : Agrees (w .marks) ks → Settled w o s → Agrees (w′ .marks) (stepped o s ks)
+  pub aside : Aside s (w .marks) (w′ .marks)
   pub taken : w′ .taken ≡ (w .taken && branchesTaken (getD sets o EMPTY ∷ []) 0 s)
   pub effects : w′ .effects .bits ≡ union (w .effects .bits) (stepEffects (getD sets o EMPTY) s)
   pub inserts : w′ .inserts ≡ w .inserts + one (isIns s)
@@ -46,7 +50,7 @@ pub record Met (code : List Step) (r : ActionSet) (o : ℕ) (s : Step) (ks : Lis
   pub went : T (w′ .targets) → Went r o s ks w w′ sets sets′
 
 abbrev pub Meets : ActionSet → ℕ → ℕ → Step → Walk → Walk → List ActionSet → List ActionSet → Type 0
-Meets r o count s w w′ sets sets′ = (code : List Step) (ks : List Mark) → Stands code o count s ks w → Met code r o s ks w w′ sets sets′
+Meets r o count s w w′ sets sets′ = (code : List Step) (ks : List Mark) → Stands code o count s w → Met code r o s ks w w′ sets sets′
 
 -- the walk after a step, as far as its marks go
 pub record LedOn (w : Walk) (led : Led) (w′ : Walk) : Type 0 where

@@ -40,8 +40,9 @@ returns-3 c code ks st =
     record {
       fits = sym (ap₂ (λ (a b : Bool). a && b) (sym (c .before .before .before .before .before .before .before .target-fits .ensures .0 code (st .size) (next-past st refl _ (c .before .before .before .before .before .before .before .before .before .only-bit .ensures))) ∙ not-false _ (c .before .before .before .before .before .before .if1 .left)) (sym (c .before .before .before .before .before .target-fits2 .ensures .0 code (st .size) (next-past st refl _ (c .before .before .before .before .before .before .before .before .before .only-bit .ensures))) ∙ not-false _ (c .before .before .before .before .if2 .left))) ∙ tested-all _ code _ (next _ _);
       went = λ t. record {
-        modes = sym (and-true _);
-        marks = λ u. c .lead-next .ensures ks (st .agrees u);
+        modes = λ g t. sym (and-true _);
+        marks = λ g t. c .lead-next .ensures .0 ks g;
+        aside = c .lead-next .ensures .1;
         taken = sym (and-true _);
         effects = sym (union-end _);
         inserts = omega arith;
