@@ -4,12 +4,13 @@ use mathlib.Core.Path.{_≡_, refl, sym, ap, _∙_}
 use mathlib.Core.Bool.{Bool, true, false, _&&_, _||_, not, Bool·beq}
 use mathlib.Core.List.{List, [], _∷_}
 use lib.Dec.{eqb}
-use borrow.Author.Tests.{ne-eqb}
+use borrow.Author.Tests.{ne-eqb, eq-eqb}
 use Rattle.actions.specs.Sets.{ActionSet}
+use Rattle.actions.proofs.Tests.{and-true}
 use Rattle.spec_policy.specs.Bytes.{Bytes}
 use Rattle.spec_policy.specs.Lists.{among}
 use Rattle.spec_policy.specs.Steps.{Step}
-use Rattle.spec_policy.specs.Tree.{Way, Join, Tree, leaf, trivial, unsatisfiable, node, numberOf}
+use Rattle.spec_policy.specs.Tree.{Way, Join, and, or, Tree, leaf, trivial, unsatisfiable, node, numberOf}
 use Rattle.spec_turns.specs.Status.{statusOf, isRunning}
 use Rattle.spec_turns.specs.Saved.{statusAt, droppedWith, isRunningAt, statuses, undecided, bare, waitsAt, fitsUnder}
 use Rattle.call_fits.specs.Alone.{fitsAlone}
@@ -143,3 +144,35 @@ module _ (bs : Bytes) (j : Join) (i left right s a b : ℕ) (es : s ≡ statusAt
         ∙ arranged d (among (statusAt bs i) (statuses j)) (bare bs i) u (Bool·beq (eqb (statusAt bs (numberOf l)) 6) (not at))
         (Bool·beq (eqb (statusAt bs (numberOf r)) 6) (not at)) (fitsAlone l bs) (fitsAlone r bs) (same-as (eqb (statusAt bs i) 6))
         ∙ λ k. d && among (statusAt bs i) (statuses j) && bare bs i && u && sym (under bs (not at) l) k && sym (under bs (not at) r) k
+
+-- ---- a pair, as the code goes through it
+
+runs : (j : Join) → among 1 (statuses j) ≡ true
+unfolding among statuses
+runs and = refl
+runs or = refl
+
+module _ (bs : Bytes) (j : Join) (i left right s a b : ℕ) (es : s ≡ statusAt bs i) (ea : a ≡ statusAt bs left) (eb : b ≡ statusAt bs right)
+    (ba : Bool) (eba : ba ≡ bare bs i) (x y : Bool) where
+  pub pair-laden : ba ≡ false → (w : Way) (l r : Tree) → numberOf l ≡ left → numberOf r ≡ right → x ≡ fitsAlone l bs → y ≡ fitsAlone r bs
+      → false ≡ fitsAlone (node w j i l r) bs
+  pair-laden e w l r nl nr ex ey =
+      sym (off (among s (statuses j))) ∙ pair-alone bs j i left right s a b es ea eb (among s (statuses j)) ba (sides j (eqb s 1) a b) x y refl eba refl w l r nl nr ex ey
+    where
+      off : (st : Bool) → (st && ba && sides j (eqb s 1) a b && x && y) ≡ false
+      off true = ap (λ (t : Bool). t && sides j (eqb s 1) a b && x && y) e
+      off false = refl
+
+  module _ (full : ba ≡ true) (si : Bool) where
+    pub pair-runs : s ≡ 1 → si ≡ sides j true a b → (w : Way) (l r : Tree) → numberOf l ≡ left → numberOf r ≡ right → x ≡ fitsAlone l bs → y ≡ fitsAlone r bs
+        → (si && x && y) ≡ fitsAlone (node w j i l r) bs
+    pair-runs e esi w l r nl nr ex ey =
+        ap (λ (t : Bool). true && t && si && x && y) (sym full)
+        ∙ pair-alone bs j i left right s a b es ea eb true ba si x y (sym (ap (λ (n : ℕ). among n (statuses j)) e ∙ runs j)) eba
+        (esi ∙ ap (λ (t : Bool). sides j t a b) (sym (eq-eqb s 1 e))) w l r nl nr ex ey
+
+    pub pair-over : (s ≡ 1 → ⊥) → (st : Bool) → st ≡ among s (statuses j) → si ≡ sides j false a b → (w : Way) (l r : Tree) → numberOf l ≡ left → numberOf r ≡ right
+        → x ≡ fitsAlone l bs → y ≡ fitsAlone r bs → (st && si && x && y) ≡ fitsAlone (node w j i l r) bs
+    pair-over e st est esi w l r nl nr ex ey =
+        ap (λ (t : Bool). t && si && x && y) (sym (and-true st) ∙ ap (λ (t : Bool). st && t) (sym full))
+        ∙ pair-alone bs j i left right s a b es ea eb st ba si x y est eba (esi ∙ ap (λ (t : Bool). sides j t a b) (sym (ne-eqb s 1 e))) w l r nl nr ex ey

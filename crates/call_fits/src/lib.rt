@@ -142,11 +142,13 @@ fn pair_fits(join: Join, left: usize, right: usize, state: &[u8], i: usize, fit:
     let s = saved_status(state, i);
     let l = saved_status(state, left);
     let r = saved_status(state, right);
-    is_status(join, s)
-        & bare(state, i)
-        & sides_fit(join, s == RUNNING, l, r)
-        & fit[left]
-        & fit[right]
+    if !bare(state, i) {
+        return false;
+    }
+    if s == RUNNING {
+        return sides_fit(join, true, l, r) & fit[left] & fit[right];
+    }
+    is_status(join, s) & sides_fit(join, false, l, r) & fit[left] & fit[right]
 }
 
 // Node i, whose `count` steps begin with number `first`, with `fit` known of every node after it.

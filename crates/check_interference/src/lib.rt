@@ -146,8 +146,8 @@ pub fn broken9(
     let mut i = n;
     while i > 0 {
         i -= 1;
-        let apart = node_apart(policy, n, m, i, regulated, effects, &flags);
         let found = node_sets(policy, n, m, i, regulated, effects);
+        let apart = node_apart(policy, n, m, i, regulated, effects, &flags);
         regulated[i] = found.regulated.bits;
         effects[i] = found.effects.bits;
         flags[i] = apart;

@@ -40,17 +40,17 @@ module _ (c : tie.In-loop Inv-loop μ-loop) where
   room = let f = start (c .before) .pre .0 .frame in omega (arith, below)
 
 slice-aggregate-node-apart : tie.Need-slice-aggregate-node-apart Inv-loop μ-loop
-slice-aggregate-node-apart c = sym (c .before .before .before .before .loop .inv .4 .room)
+slice-aggregate-node-apart c = sym (c .before .before .before .before .before .before .before .loop .inv .4 .room)
 
 node-apart-requires : tie.Need-node-apart-requires Inv-loop μ-loop
 node-apart-requires c κs =
-    let b = c .before .before .before in
+    let b = c .before .before .before .before .before .before in
     let l = b .before .loop .inv in
     (start (b .before) .pre .0, (below b, (filled-as (up b) (l .1), (filled-as (up b) (l .2), filled-as (up b) (l .4)))))
 
 node-sets-requires : tie.Need-node-sets-requires Inv-loop μ-loop
 node-sets-requires c κs =
-    let b = c .before .before .before .before .before .before in
+    let b = c .before .before in
     let l = b .before .loop .inv in
     (start (b .before) .pre .0, (below b, (held-as (up b) (l .3), (filled-as (up b) (l .1), filled-as (up b) (l .2)))))
 
@@ -59,12 +59,12 @@ loop-again c =
     let b = c .before .before .before .before .before .before .before in
     let f = start (b .before) .pre .0 .frame in
     let l = b .before .loop .inv in
-    let e = c .node-sets .ensures in (
+    let e = c .before .before .before .before .node-sets .ensures in (
       omega (arith, below b),
       filled-more (below b) (f .few-nodes) (filled-as (up b) (l .1)) (e .0),
       filled-more (below b) (f .few-nodes) (filled-as (up b) (l .2)) (e .1),
       held-less _ (held-as (up b) (l .3)),
-      filled-more (below b) (f .few-nodes) (filled-as (up b) (l .4)) (c .before .before .before .node-apart .ensures),
+      filled-more (below b) (f .few-nodes) (filled-as (up b) (l .4)) (c .node-apart .ensures),
     )
 
 slice-write-regulated : tie.Need-slice-write-regulated Inv-loop μ-loop
@@ -98,9 +98,9 @@ broken9-spec =
     μ-loop
     loop-holds
     (λ c. omega arith)
+    node-sets-requires
     slice-aggregate-node-apart
     node-apart-requires
-    node-sets-requires
     (λ c. omega (arith, room (c .before .before .before .before .before .before .before)))
     slice-write-regulated
     (λ c. omega (arith, room (c .before .before .before .before .before .before .before)))
