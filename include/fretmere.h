@@ -18,7 +18,7 @@ extern "C" {
 #endif
 
 #define FRETMERE_POLICY_MOST 6646 /* the length of the longest file that can pass the check */
-#define FRETMERE_STATE_BYTES 248  /* a state buffer has exactly this many bytes */
+#define FRETMERE_STATE_BYTES 256  /* a state buffer has exactly this many bytes */
 #define FRETMERE_EVENT_BYTES 512  /* an event buffer has at least this many */
 
 /* Why a call was refused: the lowest number that applies. README.md says what to do about each. */
@@ -34,7 +34,7 @@ enum {
     FRETMERE_BRANCH = 8,       /* an acase has a branch that no possible action takes */
     FRETMERE_INTERFERENCE = 9, /* one parallel side inserts or suppresses what the other regulates */
     FRETMERE_SPREAD = 10,      /* a node's spread, a bound on its inserts in one call, is above 255 */
-    FRETMERE_BUFFERS = 11,     /* the state buffer is not 248 bytes, or the event buffer is under 512 */
+    FRETMERE_BUFFERS = 11,     /* the state buffer is not 256 bytes, or the event buffer is under 512 */
     FRETMERE_STATE = 12,       /* the state does not fit the policy */
     FRETMERE_ACTION = 13,      /* the action is above 63 */
     FRETMERE_ROOT_HALTED = 14, /* the policy has halted */
@@ -53,7 +53,7 @@ enum {
 /* An event is two bytes: what happened, then the action. */
 enum { FRETMERE_ACCEPTED = 1, FRETMERE_SUPPRESSED = 2, FRETMERE_INSERTED = 3 };
 
-/* The answer to open, offer, close and write. */
+/* The answer to open, offer, close, running_leaves and write. */
 typedef uint32_t fretmere_answer;
 
 /* The refusal, or 0 if the call was answered. */
@@ -62,6 +62,9 @@ static inline unsigned fretmere_refusal(fretmere_answer answer) { return answer 
 /* The root's status after the call, and the number of its events. Both are 0 after a refusal. */
 static inline unsigned fretmere_status(fretmere_answer answer) { return answer >> 16 & 0xFFu; }
 static inline unsigned fretmere_events(fretmere_answer answer) { return answer & 0xFFFFu; }
+
+/* After fretmere_running_leaves, the count; 0 after a refusal. */
+static inline unsigned fretmere_leaves(fretmere_answer answer) { return answer & 0xFFu; }
 
 /* After fretmere_write, the length of the file; 0 after a refusal. */
 static inline unsigned fretmere_length(fretmere_answer answer) { return answer & 0xFFFFFFu; }
@@ -85,6 +88,10 @@ fretmere_answer fretmere_offer(const uint8_t *policy, size_t policy_length, uint
  * fretmere_offer, without a verdict. */
 fretmere_answer fretmere_close(const uint8_t *policy, size_t policy_length, uint8_t *state, size_t state_length,
                                uint8_t *events, size_t events_length);
+
+/* Tells how many leaves of the policy still run, without a walk over the state: open, offer and close keep the count in it. The state is one
+ * that they left, for the count is read and not tested. Refusal 11 if it is not FRETMERE_STATE_BYTES bytes. */
+fretmere_answer fretmere_running_leaves(const uint8_t *state, size_t state_length);
 
 /* Writes a policy file from its records. `nodes` holds the node records, 16 bytes each, and `steps` the step records, 12 bytes each, laid out
  * as in the file; the writer puts length, version and counts before them. The file begins at the output's first byte, and the bytes after

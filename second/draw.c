@@ -805,12 +805,12 @@ static void right_buffers(struct session *s)
 
 static void wrong_buffers(struct session *s)
 {
-    static const unsigned STATES[] = {247, 249, 0, 1, 240, 256};
+    static const unsigned STATES[] = {255, 257, 0, 1, 8, 248, 249, 264};
     static const unsigned EVENTS[] = {511, 510, 0, 1, 256};
     const unsigned which = between(1, 3);
 
     if ((which & 1) != 0) {
-        s->state_length = STATES[below(6)];
+        s->state_length = STATES[below(8)];
     }
     if ((which & 2) != 0) {
         s->events_length = EVENTS[below(5)];
@@ -873,7 +873,25 @@ static void draw_good(struct session *s)
 
 static uint8_t *record(struct session *s, unsigned k)
 {
-    return s->state + 8u * k;
+    return s->state + 8 + 8u * k;
+}
+
+/* How many nodes have a kind from 1 to one and a status from 1 to another. */
+static unsigned count_nodes(struct session *s, unsigned last_kind, unsigned last_status)
+{
+    unsigned count = 0;
+
+    for (unsigned k = 0; k < s->policy.n; k++) {
+        const unsigned status = record(s, k)[0];
+        count += s->policy.nodes[k].kind <= last_kind && status >= 1 && status <= last_status;
+    }
+    return count;
+}
+
+/* 02, Req 04: "the count of running leaves", of the records as they are. */
+static void put_front(struct session *s)
+{
+    put(s->state, count_nodes(s, LEAF, 1), 8);
 }
 
 static bool has_next(const struct node *leaf)
@@ -976,6 +994,7 @@ static void draw_state(struct session *s, unsigned run_percent)
             put(record(s, k) + 4, counter, 4);
         }
     }
+    put_front(s);
 }
 
 /* Clauses 8 to 11 of break_state: offset and counter of a record. */
@@ -1020,13 +1039,14 @@ static bool break_state(struct session *s, unsigned clause)
     const struct node *node = &p->nodes[k];
     uint8_t *rec = record(s, k);
     static const uint8_t ODD[] = {0, 7, 8, 128, 255};
+    const unsigned edge = below(3);
 
     switch (clause) {
-    case 0: /* a record from n on */
+    case 0: /* a record from n on: the last byte, the first, or any */
         if (p->n == MAX_N) {
             return false;
         }
-        spoil(s->state, 8 * p->n, 247, 1, 255);
+        spoil(record(s, 0), edge == 0 ? 247 : 8 * p->n, edge == 1 ? 8 * p->n : 247, 1, 255);
         return true;
     case 1: /* the two zeros */
         spoil(rec, 2, 3, 1, 255);
@@ -1066,6 +1086,76 @@ static bool break_state(struct session *s, unsigned clause)
     default:
         return break_place(p, k, rec, clause);
     }
+}
+
+/* Breaks a clause of rule 12 in the records; mostly the count is that of the broken
+ * records, so that it can't give them away. */
+static bool break_records(struct session *s)
+{
+    if (!break_state(s, below(12))) {
+        return false;
+    }
+    if (chance(75)) {
+        put_front(s);
+    }
+    return true;
+}
+
+/* A count that isn't that of the running leaves: off by one, or of other nodes, or
+ * with one bit turned, or any; answers false where it is the right one. */
+static bool break_count(struct session *s)
+{
+    static const uint8_t OTHERS[][2] = {
+        {SEQ_OR, 1}, {LEAF, 2}, {LEAF, 5}, {LEAF, 6}, {TRIVIAL, 2}, {UNSATISFIABLE, 5}, {SEQ_OR, 6},
+    };
+    const unsigned right = count_nodes(s, LEAF, 1);
+    const uint8_t *other = OTHERS[below(7)];
+    uint8_t wrong;
+
+    switch (below(5)) {
+    case 0:
+        wrong = (uint8_t)(right + 1);
+        break;
+    case 1:
+        wrong = (uint8_t)(right - 1);
+        break;
+    case 2:
+        wrong = (uint8_t)count_nodes(s, other[0], other[1]);
+        break;
+    case 3:
+        wrong = (uint8_t)(right ^ 1u << below(8));
+        break;
+    default:
+        wrong = (uint8_t)(chance(50) ? below(32) : below(256));
+        break;
+    }
+    s->state[7] = wrong;
+    return wrong != right;
+}
+
+/* Breaks the eight bytes in front of a state that fits, or answers false. */
+static bool break_front(struct session *s)
+{
+    const uint8_t count = s->state[7];
+
+    if (chance(55)) {
+        return break_count(s);
+    }
+    if (chance(75)) { /* the count is right, a byte before it isn't zero */
+        spoil(s->state, 0, 6, 1, chance(50) ? 2 : 255);
+        return true;
+    }
+    s->state[7] = 0; /* the count stands at another place */
+    s->state[below(7)] = count;
+    return count != 0;
+}
+
+/* A state as it was before it had a front, 248 bytes; at times eight more after them. */
+static void take_front_off(struct session *s)
+{
+    memmove(s->state, s->state + 8, 248);
+    memset(s->state + 248, 0, 8);
+    s->state_length = chance(70) ? 248 : GUARD_STATE_BYTES;
 }
 
 /* ------------------------------------------------------------------ */
@@ -1570,7 +1660,7 @@ static void draw_run(struct session *s)
             right_buffers(s);
         }
         const guard_answer answer = call_with_action(s, OFFER);
-        if (answer.refusal == 14 || (s->state[0] != GUARD_RUNNING && chance(70))) {
+        if (answer.refusal == 14 || (record(s, 0)[0] != GUARD_RUNNING && chance(70))) {
             break;
         }
     }
@@ -1600,11 +1690,15 @@ static void draw_unfit(struct session *s)
 {
     draw_good(s);
     for (unsigned times = between(1, 4); times > 0; times--) {
+        const bool in_front = chance(45);
         right_buffers(s);
         do {
             draw_state(s, 75);
-        } while (!break_state(s, below(12)));
-        if (chance(5)) {
+        } while (!(in_front ? break_front(s) : break_records(s)));
+        if (chance(8)) {
+            draw_state(s, 75);
+            take_front_off(s);
+        } else if (chance(5)) {
             wrong_buffers(s);
         }
         call_with_action(s, chance(70) ? OFFER : CLOSE);
@@ -2010,7 +2104,7 @@ static void draw_write(struct session *s)
 int main(int argc, char **argv)
 {
     static struct session s;
-    static const unsigned SHARES[] = {38, 23, 9, 19, 7, 4, 24};
+    static const unsigned SHARES[] = {38, 23, 14, 19, 7, 4, 24};
 
     if (argc != 3) {
         fputs("draw SEED COUNT\n", stderr);

@@ -1,4 +1,4 @@
-/* guard.c: a policy guard written by hand from 01, and 02's writer; their sentences stand in quotation marks. */
+/* guard.c: a policy guard written by hand from 01, and 02's writer and count; their sentences stand in quotation marks. */
 #include "guard.h"
 
 #include <stdbool.h>
@@ -527,8 +527,23 @@ static uint8_t check_policy(struct policy *p, const uint8_t *bytes, size_t lengt
 /* ------------------------------------------------------------------ */
 /* Statuses and the saved state.                                        */
 
+/* The state begins with 02's "8 new bytes in front, the last one the count, the
+ * others zero"; the records come after them, one per node number. */
+enum { FRONT_BYTES = 8, FRONT_COUNT = 7 };
+
 /* A record of the state: "status, offset, two zeros, counter (4)". */
 enum { RECORD_OFFSET = 1, RECORD_ZEROS = 2, RECORD_COUNTER = 4 };
+
+static inline const uint8_t *saved_record(const uint8_t *state, unsigned k)
+{
+    return state + FRONT_BYTES + (size_t)RECORD_BYTES * k;
+}
+
+/* What 02's count counts: a trivial or unsatisfiable node is no leaf. */
+static inline bool is_running_leaf(const uint8_t *node, const uint8_t *record)
+{
+    return node[0] == LEAF && record[0] == GUARD_RUNNING;
+}
 
 static inline bool has_ended(unsigned status)
 {
@@ -586,7 +601,7 @@ static bool place_fits(const struct policy *p, unsigned k, const uint8_t *record
     const unsigned offset = record[RECORD_OFFSET];
     const uint32_t counter = be32(record + RECORD_COUNTER);
 
-    if (node[0] == LEAF && record[0] == GUARD_RUNNING) {
+    if (is_running_leaf(node, record)) {
         return offset < node[NODE_STEPS] && step_at(p, k, offset)[0] == NEXT &&
                counter <= be32(node + NODE_START);
     }
@@ -599,8 +614,8 @@ static bool place_fits(const struct policy *p, unsigned k, const uint8_t *record
  * halted". */
 static bool sides_fit(const uint8_t *node, uint8_t status, const uint8_t *state)
 {
-    const unsigned left = state[RECORD_BYTES * node[NODE_LEFT]];
-    const unsigned right = state[RECORD_BYTES * node[NODE_RIGHT]];
+    const unsigned left = *saved_record(state, node[NODE_LEFT]);
+    const unsigned right = *saved_record(state, node[NODE_RIGHT]);
 
     if (status == GUARD_RUNNING) {
         return left != GUARD_DROPPED && right != GUARD_DROPPED &&
@@ -609,28 +624,31 @@ static bool sides_fit(const uint8_t *node, uint8_t status, const uint8_t *state)
     return left == GUARD_DROPPED && right == GUARD_DROPPED;
 }
 
-/* Rule 12: "the state doesn't fit the policy". */
+/* Rule 12: "the state doesn't fit the policy", and it "covers a wrong count". */
 static bool state_fits(const struct policy *p, const uint8_t *state)
 {
-    if (state[0] == GUARD_DROPPED) {
+    uint64_t running = 0;
+
+    if (*saved_record(state, 0) == GUARD_DROPPED) {
         return false; /* "the root is not dropped" */
     }
     for (unsigned k = 0; k < p->n; k++) {
         const uint8_t *node = node_at(p, k);
-        const uint8_t *record = state + (size_t)RECORD_BYTES * k;
+        const uint8_t *record = saved_record(state, k);
         if (record[0] > GUARD_DROPPED || (MAY_HOLD[node[0]] >> record[0] & 1u) == 0 ||
             record[RECORD_ZEROS] != 0 || record[RECORD_ZEROS + 1] != 0 ||
             !place_fits(p, k, record) ||
             (is_inner(node[0]) && !sides_fit(node, record[0], state))) {
             return false;
         }
+        running += is_running_leaf(node, record);
     }
-    for (size_t b = (size_t)RECORD_BYTES * p->n; b < GUARD_STATE_BYTES; b++) {
-        if (state[b] != 0) {
+    for (const uint8_t *b = saved_record(state, p->n); b < state + GUARD_STATE_BYTES; b++) {
+        if (*b != 0) {
             return false; /* "node records from n on ... are zero" */
         }
     }
-    return true;
+    return be64(state) == running; /* the last byte the count, "the others zero" */
 }
 
 /* ------------------------------------------------------------------ */
@@ -661,7 +679,7 @@ static enum outcome run_node(struct run *g, unsigned k, enum phase phase, uint8_
 
 static inline uint8_t *record_at(const struct run *g, unsigned k)
 {
-    return g->state + (size_t)RECORD_BYTES * k;
+    return g->state + FRONT_BYTES + (size_t)RECORD_BYTES * k;
 }
 
 static inline bool is_running(const struct run *g, unsigned k)
@@ -911,17 +929,23 @@ static enum outcome run_node(struct run *g, unsigned k, enum phase phase, uint8_
 
 /* "When a node is decided, all nodes beneath it become dropped. A leaf that isn't
  * running has offset and counter zero." Nothing beneath a decided node is looked
- * at again in a call, so one pass at its end, parents first, is enough. */
+ * at again in a call, so one pass at its end, parents first, is enough. A node that
+ * is to be dropped has been when it is met, so the pass counts the running leaves. */
 static guard_answer settle(struct run *g)
 {
+    uint8_t running = 0;
+
     for (unsigned k = 0; k < g->p->n; k++) {
         const uint8_t *node = node_at(g->p, k);
-        if (is_inner(node[0]) && !is_running(g, k)) {
+        if (is_running(g, k)) {
+            running += node[0] == LEAF;
+        } else if (is_inner(node[0])) {
             put_record(record_at(g, node[NODE_LEFT]), GUARD_DROPPED, 0, 0);
             put_record(record_at(g, node[NODE_RIGHT]), GUARD_DROPPED, 0, 0);
         }
     }
-    return (guard_answer){0, g->state[0], g->count};
+    g->state[FRONT_COUNT] = running;
+    return (guard_answer){0, *record_at(g, 0), g->count};
 }
 
 /* ------------------------------------------------------------------ */
@@ -996,7 +1020,7 @@ guard_answer guard_offer(const uint8_t *policy, size_t policy_length,
     if (action > MAX_ACTION) {
         return refuse(13);
     }
-    if (state[0] == GUARD_HALTED) {
+    if (*saved_record(state, 0) == GUARD_HALTED) {
         return refuse(14); /* "the root has halted" */
     }
     struct run g = {&p, state, events, 0, 0};
@@ -1004,7 +1028,7 @@ guard_answer guard_offer(const uint8_t *policy, size_t policy_length,
         /* "At the root, an action not regulated is accepted with no change. So is
          * any action once the root has ended." */
         put_event(&g, GUARD_ACCEPTED, action);
-        return (guard_answer){0, state[0], g.count};
+        return (guard_answer){0, *record_at(&g, 0), g.count};
     }
     const enum outcome verdict = run_node(&g, 0, BEFORE, action);
     if (verdict != HALTS) { /* "a halt before the verdict has none" */
@@ -1027,13 +1051,23 @@ guard_answer guard_close(const uint8_t *policy, size_t policy_length,
     if (refusal != 0) {
         return refuse(refusal);
     }
-    if (state[0] != GUARD_RUNNING) {
+    if (*saved_record(state, 0) != GUARD_RUNNING) {
         /* "Closing a decided root emits nothing and answers its status." */
-        return (guard_answer){0, state[0], 0};
+        return (guard_answer){0, *saved_record(state, 0), 0};
     }
     struct run g = {&p, state, events, 0, 0};
     (void)run_node(&g, 0, CLOSING_DOWN, 0);
     return settle(&g);
+}
+
+/* 02, Req 04: "The panel asks after every command". There is no policy to hold the
+ * state against, so only its length can be wrong. */
+guard_count guard_running_leaves(const uint8_t *state, size_t state_length)
+{
+    if (state_length != GUARD_STATE_BYTES) {
+        return (guard_count){.refusal = 11};
+    }
+    return (guard_count){.leaves = state[FRONT_COUNT]};
 }
 
 /* ------------------------------------------------------------------ */

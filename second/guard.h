@@ -1,4 +1,4 @@
-/* guard.h: the four entry points of the policy guard of 01 and the writer of 02, over plain buffers with lengths. */
+/* guard.h: the four entry points of the policy guard of 01, and the writer and the count of 02, over plain buffers with lengths. */
 #ifndef GUARD_H
 #define GUARD_H
 
@@ -6,7 +6,7 @@
 #include <stdint.h>
 
 #define GUARD_MAX_NODES 31u
-#define GUARD_STATE_BYTES 248u /* "State: 248 bytes, 8 per node number" */
+#define GUARD_STATE_BYTES 256u /* 02, Req 04: "8 new bytes in front", then 8 per node number */
 #define GUARD_EVENT_BYTES 512u /* "event buffer is under 512" is refused */
 
 /* "1 running, 2 ended, 3 ended left, 4 ended right, 5 halted, 6 dropped." */
@@ -50,6 +50,12 @@ typedef struct {
     uint16_t length;
 } guard_written;
 
+/* refusal is 0 and leaves the count of running leaves, or refusal is 11 and leaves 0. */
+typedef struct {
+    uint8_t refusal;
+    uint8_t leaves;
+} guard_count;
+
 /* A buffer that is written to must not overlap another. A buffer of length 0 may
  * be a null pointer. */
 
@@ -70,6 +76,10 @@ guard_answer guard_offer(const uint8_t *policy, size_t policy_length,
 guard_answer guard_close(const uint8_t *policy, size_t policy_length,
                          uint8_t *state, size_t state_length,
                          uint8_t *events, size_t events_length);
+
+/* How many leaves still run, from a state that a call has left: its byte 7, and no
+ * other byte is read. Refusal 11 if the state is not 256 bytes, and no other. */
+guard_count guard_running_leaves(const uint8_t *state, size_t state_length);
 
 /* Writes the file of these records, "laid out as in the file". Refusals 3 to 10
  * and 15; a refusal writes nothing, and "output bytes after the file stay". */

@@ -14,6 +14,7 @@ static struct {
     unsigned long write_refusals[16], short_refusals[16], room[3];
     unsigned long kinds[8], nodes[32], steps[6], step_kinds[9], status_by_node[7];
     unsigned long event_counts[12], event_kinds[4], most_events, verdict_halts;
+    unsigned long buffers[4], state_lengths[3], fronts[8], running[GUARD_MAX_NODES + 1], fewer[4];
 } seen;
 
 /* Nodes and steps of a policy that passed. */
@@ -72,9 +73,58 @@ static void count_write(void)
     }
 }
 
+/* Refusal 11: 1 the state's length, 2 the events', 3 both; of states those of 248
+ * bytes, shorter and longer ones. */
+static void count_lengths(void)
+{
+    const bool bad_state = state.length != GUARD_STATE_BYTES;
+
+    seen.buffers[bad_state + 2 * (events.length < GUARD_EVENT_BYTES)]++;
+    if (bad_state) {
+        seen.state_lengths[state.length == 248 ? 0 : state.length < GUARD_STATE_BYTES ? 1 : 2]++;
+    }
+}
+
+/* Refusal 12: 1 a byte before the count isn't zero, 2 the count is wrong (both are 3),
+ * and 4 if the records don't fit under a right front either. A fitting state and an
+ * action above 63 are refused 13. */
+static void count_misfit(void)
+{
+    static uint8_t mended[GUARD_STATE_BYTES];
+    unsigned running = 0, cause = 0;
+
+    memcpy(mended, state.bytes, sizeof mended);
+    for (unsigned k = 0; k < policy.bytes[3]; k++) {
+        running += policy.bytes[6 + 16 * k] == 1 && mended[8 + 8 * k] == GUARD_RUNNING;
+    }
+    for (unsigned i = 0; i < 7; i++) {
+        cause |= mended[i] != 0 ? 1 : 0;
+        mended[i] = 0;
+    }
+    cause |= mended[7] != running ? 2 : 0;
+    mended[7] = (uint8_t)running;
+    cause |= guard_offer(policy.bytes, policy.length, mended, sizeof mended, events.bytes,
+                         events.length, 64).refusal == 12 ? 4 : 0;
+    seen.fronts[cause]++;
+}
+
+/* What the panel reads after an answered call, and whether it is less than before. */
+static void count_running(int entry, const uint8_t *before)
+{
+    const unsigned leaves = guard_running_leaves(state.bytes, state.length).leaves;
+
+    seen.running[leaves]++;
+    seen.fewer[entry] += entry != OPEN && leaves < before[7];
+}
+
 static void count_answer(int entry, guard_answer answer, bool changed)
 {
     seen.refusals[answer.refusal]++;
+    if (answer.refusal == 11) {
+        count_lengths();
+    } else if (answer.refusal == 12) {
+        count_misfit();
+    }
     if (!count_call(entry, answer.refusal, policy.bytes) || entry == CHECK) {
         return;
     }
@@ -126,6 +176,9 @@ static bool one_call(int entry)
         changed = changed || before[i] != state.bytes[i];
     }
     count_answer(entry, answer, changed);
+    if (entry != CHECK && answer.refusal == 0) {
+        count_running(entry, before);
+    }
     return true;
 }
 
@@ -155,6 +208,13 @@ int main(void)
     print_row("refusals of entries 0 to 3", seen.refusals, 1, 14);
     print_row("refusals of writes", seen.write_refusals, 1, 15);
     print_row("refusals of writes whose output is too short", seen.short_refusals, 1, 15);
+    print_row("refusal 11 (1 the state's length, 2 the events', 3 both)", seen.buffers, 1, 3);
+    print_row("state's length in refusal 11 (0 248 bytes, 1 other less than 256, 2 more)",
+              seen.state_lengths, 0, 2);
+    print_row("refusal 12 (1 a byte before the count, 2 the count, 4 the records, and sums)",
+              seen.fronts, 0, 7);
+    print_row("running leaves after answered calls", seen.running, 0, GUARD_MAX_NODES);
+    print_row("calls that leave fewer leaves running, by entry", seen.fewer, 0, 3);
     print_row("outputs of writes answered (0 exact, 1 longer, 2 the longest)", seen.room, 0, 2);
     print_row("root statuses answered", seen.statuses, 1, 5);
     print_row("events (1 acc, 2 sup, 3 ins)", seen.event_kinds, 1, 3);

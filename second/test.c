@@ -1,4 +1,5 @@
-/* test.c: 01's P1 to P11, its guardrun example and some edges, asserted against the guard; the writer, also on files it is named. */
+/* test.c: 01's P1 to P11, its guardrun example and some edges, asserted against the guard; the count in the state; the writer, also on files it is
+ * named. */
 #include "guard.h"
 
 #include <stdio.h>
@@ -131,6 +132,27 @@ struct session {
     char text[4096];
 };
 
+/* Node k's record in the state. */
+static uint8_t *record(struct session *s, unsigned k)
+{
+    return s->state + 8 + 8u * k;
+}
+
+/* 02, Req 04: "8 new bytes in front, the last one the count, the others zero". */
+static unsigned running_leaves(struct session *s)
+{
+    unsigned running = 0;
+
+    for (unsigned k = 0; k < s->file.bytes[3]; k++) {
+        running += s->file.bytes[6 + 16u * k] == 1 && record(s, k)[0] == GUARD_RUNNING;
+    }
+    for (unsigned i = 0; i < 7; i++) {
+        EXPECT(s->state[i] == 0);
+    }
+    EXPECT(s->state[7] == running);
+    return running;
+}
+
 static const char *tell(struct session *s, guard_answer answer)
 {
     char *at = s->text;
@@ -146,6 +168,10 @@ static const char *tell(struct session *s, guard_answer answer)
     for (unsigned i = 2u * answer.events; i < GUARD_EVENT_BYTES; i++) {
         EXPECT(s->events[i] == 0xA5);
     }
+    EXPECT(answer.status == record(s, 0)[0]);
+    const guard_count count = guard_running_leaves(s->state, sizeof s->state);
+    EXPECT(count.refusal == 0 && count.leaves == running_leaves(s));
+    EXPECT((count.leaves > 0) == (answer.status == GUARD_RUNNING));
     sprintf(at, "=%u", answer.status);
     return s->text;
 }
@@ -273,7 +299,7 @@ static void guardrun(struct session *run, const uint8_t *actions, size_t count, 
     }
     out += sprintf(out, "open %s\n", STATUS[answer.status]);
     out = say_events(out, run, answer.events);
-    for (size_t i = 0; i < count && run->state[0] != GUARD_HALTED; i++) {
+    for (size_t i = 0; i < count && answer.status != GUARD_HALTED; i++) {
         answer = guard_offer(f->bytes, f->length, run->state, sizeof run->state, run->events,
                              sizeof run->events, actions[i]);
         if (answer.refusal != 0) {
@@ -348,7 +374,7 @@ static void feeding(void)
     finish(&s.file);
     SAYS(open_it(&s), "=1");
     SAYS(offer(&s, 0), "i3 i9 a0 =4"); /* ended by the insert: accepts 0, 6 is never made */
-    EXPECT(s.state[8] == 6 && s.state[16] == 6);
+    EXPECT(record(&s, 1)[0] == 6 && record(&s, 2)[0] == 6);
 
     s.file.bytes[6] = 5; /* in kind 5 the left goes on and its sup stands */
     SAYS(open_it(&s), "=1");
@@ -377,7 +403,7 @@ static void halting(void)
     s.file.bytes[6] = 7;
     SAYS(open_it(&s), "=1");
     SAYS(offer(&s, 0), "i3 i3 a0 =1");
-    EXPECT(s.state[8] == 1 && s.state[16] == 5);
+    EXPECT(record(&s, 1)[0] == 1 && record(&s, 2)[0] == 5);
     SAYS(close_it(&s), "=3");
 }
 
@@ -570,6 +596,239 @@ static void refuses_counts(void)
     REFUSED(write_records(nodes, 16 * 1025, steps, 12 * 4101, 82), 3); /* 65,536 bytes more */
 }
 
+/* ------------------------------------------------------------------ */
+/* 02, Req 04: "Keep the count of running leaves in the state itself". tell holds it
+ * against the records after every answered call. */
+
+/* What the panel reads. */
+static unsigned panel(void)
+{
+    return guard_running_leaves(s.state, sizeof s.state).leaves;
+}
+
+static void counts_one_leaf(void)
+{
+    one(&s.file, 'L');
+    SAYS(open_it(&s), "=1");
+    EXPECT(panel() == 1);
+    for (unsigned i = 0; i < 3; i++) {
+        SAYS(offer(&s, 2), "a2 =1");
+        EXPECT(panel() == 1);
+    }
+    SAYS(offer(&s, 2), "=5"); /* it halts */
+    EXPECT(panel() == 0);
+    SAYS(close_it(&s), "=5");
+    EXPECT(panel() == 0);
+
+    one(&s.file, 'V');
+    SAYS(open_it(&s), "=1");
+    SAYS(offer(&s, 9), "a9 =1"); /* not regulated */
+    EXPECT(panel() == 1);
+    SAYS(close_it(&s), "i3 =2"); /* it ends */
+    EXPECT(panel() == 0);
+    SAYS(offer(&s, 4), "a4 =2");
+    EXPECT(panel() == 0);
+
+    one(&s.file, 'T'); /* neither of these is a leaf */
+    SAYS(open_it(&s), "=2");
+    EXPECT(panel() == 0);
+    one(&s.file, 'U');
+    SAYS(open_it(&s), "=5");
+    EXPECT(panel() == 0);
+}
+
+static void counts_two_sides(void)
+{
+    two(&s.file, 4, 'V', 'v');
+    SAYS(open_it(&s), "=1");
+    EXPECT(panel() == 2);
+    SAYS(close_it(&s), "i3 i6 =2"); /* both dropped */
+    EXPECT(panel() == 0);
+    two(&s.file, 4, 'T', 'L'); /* a trivial side doesn't count */
+    SAYS(open_it(&s), "=1");
+    EXPECT(panel() == 1);
+    two(&s.file, 6, 'L', 'U'); /* nor does an unsatisfiable one */
+    SAYS(open_it(&s), "=1");
+    EXPECT(panel() == 1);
+    two(&s.file, 6, 'L', 'T'); /* dropped in opening */
+    SAYS(open_it(&s), "=4");
+    EXPECT(panel() == 0 && record(&s, 1)[0] == GUARD_DROPPED);
+    two(&s.file, 5, 'U', 'L'); /* opened, and then dropped */
+    SAYS(open_it(&s), "=5");
+    EXPECT(panel() == 0 && record(&s, 2)[0] == GUARD_DROPPED);
+    two(&s.file, 7, 'L', 'T'); /* dropped and never opened */
+    SAYS(open_it(&s), "=4");
+    EXPECT(panel() == 0 && record(&s, 1)[0] == GUARD_DROPPED);
+}
+
+enum { END = 7, HALT = 8 };
+
+/* L beside a node of V and a leaf that ends or halts on 1: where that decides the
+ * node, V is dropped. */
+static void counts_inner_nodes(unsigned kind, unsigned last, const char *says, unsigned running)
+{
+    struct file *f = &s.file;
+
+    start(f, 5);
+    node(f, 0, 4, 1, 2, 0, 0, 0);
+    add(f, 1, 'L');
+    node(f, 2, kind, 3, 4, 0, 0, 0);
+    add(f, 3, 'V');
+    node(f, 4, 1, 0, 0, 3, 0, BIT(1));
+    step(f, 1, 0, 1, 2, 0);
+    step(f, last, 0, 0, 0, 0);
+    step(f, 7, 0, 0, 0, 0);
+    finish(f);
+    SAYS(open_it(&s), "=1");
+    EXPECT(panel() == 3);
+    SAYS(offer(&s, 4), "s4 i3 =1");
+    EXPECT(panel() == 3);
+    SAYS(offer(&s, 1), says);
+    EXPECT(panel() == running);
+}
+
+/* "nodes n, 1 to 31": no more than 16 leaves, here all of them L. */
+static void counts_sixteen(void)
+{
+    struct file *f = &s.file;
+
+    start(f, 31);
+    for (unsigned k = 0; k < 31; k++) {
+        if (k % 2 == 0 && k < 30) {
+            node(f, k, 6, k + 1, k + 2, 0, 0, 0);
+        } else {
+            add(f, k, 'L');
+        }
+    }
+    finish(f);
+    SAYS(open_it(&s), "=1");
+    EXPECT(panel() == 16);
+    for (unsigned i = 0; i < 3; i++) {
+        SAYS(offer(&s, 2), "a2 =1");
+        EXPECT(panel() == 16);
+    }
+    put(record(&s, 1) + 4, 1, 4); /* two leaves with a reheat left */
+    put(record(&s, 30) + 4, 1, 4);
+    SAYS(offer(&s, 2), "a2 =1");
+    EXPECT(panel() == 2);
+    SAYS(offer(&s, 2), "=5");
+    EXPECT(panel() == 0);
+}
+
+/* The state in s is refused by every call that reads it, before the numbers above
+ * 12, and it stays. */
+static void misfits(void)
+{
+    uint8_t kept[GUARD_STATE_BYTES];
+
+    memcpy(kept, s.state, sizeof kept);
+    SAYS(offer(&s, 2), "refused 12");
+    SAYS(offer(&s, 9), "refused 12");
+    SAYS(offer(&s, 64), "refused 12");
+    SAYS(close_it(&s), "refused 12");
+    EXPECT(memcmp(kept, s.state, sizeof kept) == 0);
+    SAYS(tell(&s, guard_close(s.file.bytes, s.file.length, s.state, sizeof s.state, s.events,
+                              sizeof s.events - 1)), "refused 11");
+}
+
+/* "refusal 12 covers a wrong count"; of the front every other byte is zero. The state
+ * in s fits. */
+static void misfits_but_for_one(unsigned right)
+{
+    EXPECT(s.state[7] == right);
+    for (unsigned count = 0; count <= 255; count++) {
+        s.state[7] = (uint8_t)count;
+        if (count != right) {
+            misfits();
+        }
+    }
+    s.state[7] = (uint8_t)right;
+    for (unsigned i = 0; i < 7; i++) {
+        for (unsigned byte = 1; byte <= 255; byte++) {
+            s.state[i] = (uint8_t)byte;
+            misfits();
+        }
+        s.state[i] = (uint8_t)right; /* the count at another place too */
+        s.state[7] = 0;
+        if (right != 0) {
+            misfits();
+        }
+        s.state[i] = 0;
+        s.state[7] = (uint8_t)right;
+    }
+}
+
+static void refuses_counts_in_states(void)
+{
+    start(&s.file, 5); /* one of its three nodes without sides runs */
+    node(&s.file, 0, 4, 1, 2, 0, 0, 0);
+    add(&s.file, 1, 'T');
+    node(&s.file, 2, 6, 3, 4, 0, 0, 0);
+    add(&s.file, 3, 'L');
+    add(&s.file, 4, 'U');
+    finish(&s.file);
+    SAYS(open_it(&s), "=1");
+    misfits_but_for_one(1);
+    SAYS(offer(&s, 2), "a2 =1");
+    two(&s.file, 4, 'V', 'v');
+    SAYS(open_it(&s), "=1");
+    misfits_but_for_one(2);
+    SAYS(close_it(&s), "i3 i6 =2");
+    misfits_but_for_one(0); /* closing a decided root reads the state too */
+    SAYS(offer(&s, 4), "a4 =2");
+    one(&s.file, 'U');
+    SAYS(open_it(&s), "=5");
+    misfits_but_for_one(0);
+    SAYS(offer(&s, 2), "refused 14");
+    two(&s.file, 4, 'L', 'L'); /* a right count of records that don't fit */
+    SAYS(open_it(&s), "=1");
+    put(record(&s, 1), UINT64_C(6) << 56, 8);
+    s.state[7] = 1;
+    misfits();
+    for (unsigned i = 8 * (1 + 3); i < 256; i++) { /* records from n on */
+        SAYS(open_it(&s), "=1");
+        s.state[i] = 1;
+        misfits();
+    }
+    one(&s.file, 'T');
+    SAYS(open_it(&s), "=2");
+    record(&s, 0)[0] = GUARD_DROPPED;
+    misfits();
+}
+
+/* "Refusal 11 now means 256 bytes": the state's first bytes, as many as there are. */
+static void refuses_lengths(void)
+{
+    static uint8_t state[300], kept[300];
+    const struct file *f = &s.file;
+
+    two(&s.file, 4, 'V', 'v');
+    SAYS(open_it(&s), "=1");
+    memset(state, 0, sizeof state);
+    for (unsigned old = 0; old <= 1; old++) { /* as it is, and without its front */
+        memcpy(state, s.state + 8 * old, sizeof s.state - 8 * old);
+        memcpy(kept, state, sizeof kept);
+        for (size_t length = 0; length <= sizeof state; length++) {
+            const guard_count count = guard_running_leaves(state, length);
+            if (length == 256) {
+                EXPECT(count.refusal == 0 && count.leaves == state[7]);
+                continue;
+            }
+            EXPECT(count.refusal == 11 && count.leaves == 0);
+            SAYS(tell(&s, guard_open(f->bytes, f->length, state, length, s.events,
+                                     sizeof s.events)), "refused 11");
+            SAYS(tell(&s, guard_offer(f->bytes, f->length, state, length, s.events,
+                                      sizeof s.events, 4)), "refused 11");
+            SAYS(tell(&s, guard_close(f->bytes, f->length, state, length, s.events,
+                                      sizeof s.events)), "refused 11");
+            EXPECT(memcmp(state, kept, sizeof kept) == 0);
+        }
+    }
+    EXPECT(guard_running_leaves(NULL, 0).refusal == 11);
+    SAYS(tell(&s, guard_offer(f->bytes, f->length, state, 256, s.events, sizeof s.events, 4)),
+         "refused 12"); /* an old state in 256 bytes */
+}
+
 /* A file named on the command line, as the samples' policies are. */
 static void writes_named(const char *name)
 {
@@ -599,6 +858,16 @@ int main(int argc, char **argv)
     refuses_rules_4_to_10();
     refuses_broken_records();
     refuses_counts();
+    counts_one_leaf();
+    counts_two_sides();
+    counts_inner_nodes(6, END, "a1 =1", 1); /* the "or" has ended, and V is dropped */
+    counts_inner_nodes(7, END, "a1 =1", 1);
+    counts_inner_nodes(6, HALT, "a1 =1", 2); /* passed over, V goes on */
+    counts_inner_nodes(4, END, "a1 =1", 2);
+    counts_inner_nodes(5, HALT, "=5", 0);
+    counts_sixteen();
+    refuses_counts_in_states();
+    refuses_lengths();
     for (int i = 1; i < argc; i++) {
         writes_named(argv[i]);
     }

@@ -148,6 +148,7 @@ static void small_calls(void)
     expect(fretmere_check(L, sizeof L - 1, &regulated, &effects) == FRETMERE_LENGTH, "a byte short");
     answer = fretmere_open(L, sizeof L, saved, sizeof saved, room, sizeof room);
     expect(fretmere_status(answer) == FRETMERE_RUNNING && fretmere_events(answer) == 0, "P2, opening");
+    expect(fretmere_running_leaves(saved, sizeof saved) == 1, "a running leaf");
     for (const char *a = "\1\2\2\1\2"; *a != '\0'; a++) {
         answer = fretmere_offer(L, sizeof L, saved, sizeof saved, room, sizeof room, (uint8_t)*a);
         expect(fretmere_status(answer) == FRETMERE_RUNNING && fretmere_events(answer) == 1, "P2, an answer");
@@ -155,6 +156,10 @@ static void small_calls(void)
     }
     answer = fretmere_offer(L, sizeof L, saved, sizeof saved, room, sizeof room, 2);
     expect(fretmere_status(answer) == FRETMERE_HALTED && fretmere_events(answer) == 0, "P2, the fourth 2");
+    answer = fretmere_running_leaves(saved, sizeof saved);
+    expect(fretmere_refusal(answer) == FRETMERE_NOT_REFUSED && fretmere_leaves(answer) == 0, "no running leaf");
+    answer = fretmere_running_leaves(saved, sizeof saved - 1);
+    expect(fretmere_refusal(answer) == FRETMERE_BUFFERS && fretmere_leaves(answer) == 0, "a state a byte short");
     answer = fretmere_offer(L, sizeof L, saved, sizeof saved, room, sizeof room, 2);
     expect(fretmere_refusal(answer) == FRETMERE_ROOT_HALTED && fretmere_events(answer) == 0, "a halted root");
     answer = fretmere_open(L, sizeof L, saved, sizeof saved, room, sizeof room - 1);

@@ -16,9 +16,10 @@ use Rattle.spec_turns.specs.Status.{Status, statusNumber, isHalted}
 use Rattle.spec_turns.specs.State.{State, status}
 use Rattle.spec_turns.specs.Turn.{verdict}
 use Rattle.spec_turns.specs.Events.{Event, eventOf, eventBytes}
-use Rattle.spec_turns.specs.Saved.{statusAt, cell, saved}
-use Rattle.laws_turns.proofs.Cells.{Kept, lawful-apart, status-is, saved-length, saved-kept}
+use Rattle.spec_turns.specs.Saved.{cells, statusAt, cell, savedCells, saved}
+use Rattle.laws_turns.proofs.Cells.{Kept, lawful-apart, status-is, cells-length, cells-kept}
 use Rattle.laws_turns.specs.Cells.{cellAt}
+use Rattle.laws_turns.proofs.Fits.{saved-cells}
 use Rattle.laws_turns.proofs.Lasting.{in-cells}
 use Rattle.call_answer.specs.declared.Answer.the-variants.{Answered}
 use Rattle.call_answer.specs.Ends.{verdicts, Added, Ended}
@@ -66,13 +67,13 @@ kept-root (unsatisfiable i) s bs k = k
 kept-root (node w j i l r) s bs k = k .0
 
 module _ {policy : Bytes} (ok : Passed policy) where
-  -- the saved state's first byte is the root's status
-  saved-root : (s : State) → statusAt (saved (tree policy) s) 0 ≡ statusNumber (status s)
+  -- the first byte of the saved state's cells is the root's status
+  saved-root : (s : State) → statusAt (savedCells (tree policy) s) 0 ≡ statusNumber (status s)
   saved-root s =
       let t : Tree = tree policy in
-      status-is (saved t s) 0 (saved-length t (in-cells policy ok) s) (omega arith) s
-      (subst (λ (i : ℕ). cellAt (saved t s) i ≡ cell s) (root-number policy)
-      (kept-root t s (saved t s) (saved-kept t (lawful-apart t (lawful policy ok)) (in-cells policy ok) s)))
+      status-is (savedCells t s) 0 (cells-length t (in-cells policy ok) s) (omega arith) s
+      (subst (λ (i : ℕ). cellAt (savedCells t s) i ≡ cell s) (root-number policy)
+      (kept-root t s (savedCells t s) (cells-kept t (lawful-apart t (lawful policy ok)) (in-cells policy ok) s)))
 
-  pub ended : {s : State} (n : ℕ) {b : ℕ} {bytes : Bytes} → bytes ≡ saved (tree policy) s → b ≡ statusAt bytes 0 → Ended (tree policy) s n (Answered n b) bytes
-  ended {s} n e f = record { answer = ap (Answered n) (f ∙ ap (λ (bs : Bytes). statusAt bs 0) e ∙ saved-root s); state = e }
+  pub ended : {s : State} (n : ℕ) {b : ℕ} {bytes : Bytes} → bytes ≡ saved (tree policy) s → b ≡ statusAt (cells bytes) 0 → Ended (tree policy) s n (Answered n b) bytes
+  ended {s} n e f = record { answer = ap (Answered n) (f ∙ ap (λ (bs : Bytes). statusAt (cells bs) 0) e ∙ ap (λ (bs : Bytes). statusAt bs 0) (saved-cells (tree policy) s) ∙ saved-root s); state = e }

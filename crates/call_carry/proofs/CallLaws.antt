@@ -19,7 +19,7 @@ use Rattle.spec_turns.specs.State.{State, status}
 use Rattle.spec_turns.specs.Process.{Process, Out, outcome, trace, items}
 use Rattle.spec_turns.specs.Turn.{Phase, before, after, isAsked, quiet, verdict, phase, fresh, closing, Request, opening, offer, close, call}
 use Rattle.spec_turns.specs.Events.{eventOf, events, eventBytes}
-use Rattle.spec_turns.specs.Saved.{stateSize, statusAt, load, saved, fits}
+use Rattle.spec_turns.specs.Saved.{stateSize, cells, statusAt, load, saved, fits}
 use Rattle.spec_turns.specs.Entries.{carriedOut, carried}
 use Rattle.laws_turns.proofs.Fits.{status-at}
 use Rattle.laws_turns.proofs.NoChange.{saved-load, unasked, decided-quiet}
@@ -99,55 +99,55 @@ unfolding carriedOut carried call
 opened policy state room s {r} {bytes} {room′} e g = subst (λ (x : State). Gave (carried (tree policy) (phase (tree policy) after x) room) r bytes room′) e g
 
 -- the other calls read one that fits
-pub carried-out : (policy : Bytes) (q : Request) (state room : Bytes) (s : State) {r : Answer} {bytes room′ : Bytes} → s ≡ load (tree policy) state
+pub carried-out : (policy : Bytes) (q : Request) (state room : Bytes) (s : State) {r : Answer} {bytes room′ : Bytes} → s ≡ load (tree policy) (cells state)
     → Gave (carried (tree policy) (call (tree policy) q s) room) r bytes room′ → Gave (carriedOut policy q state room) r bytes room′
 unfolding carriedOut carried
 carried-out policy q state room s {r} {bytes} {room′} e g = subst (λ (x : State). Gave (carried (tree policy) (call (tree policy) q x) room) r bytes room′) e g
 
 -- ---- whether the root is asked
 
-root-read : (policy state : Bytes) → statusOf (statusAt state 0) ≡ status (load (tree policy) state)
-root-read policy state = ap (λ (i : ℕ). statusOf (statusAt state i)) (sym (root-number policy)) ∙ status-at (tree policy) state
+root-read : (policy state : Bytes) → statusOf (statusAt (cells state) 0) ≡ status (load (tree policy) (cells state))
+root-read policy state = ap (λ (i : ℕ). statusOf (statusAt (cells state) i)) (sym (root-number policy)) ∙ status-at (tree policy) (cells state)
 
 -- as the code reads it
-pub asks-root : (policy state : Bytes) (a : Action) {b : ℕ} {v w : Bool} {r : ActionSet} → b ≡ statusAt state 0 → v ≡ isRunning (statusOf b) → w ≡ has r a
-    → r ≡ regulated (tree policy) → (v && w) ≡ (isRunning (statusOf (statusAt state 0)) && has (regulated (tree policy)) a)
+pub asks-root : (policy state : Bytes) (a : Action) {b : ℕ} {v w : Bool} {r : ActionSet} → b ≡ statusAt (cells state) 0 → v ≡ isRunning (statusOf b) → w ≡ has r a
+    → r ≡ regulated (tree policy) → (v && w) ≡ (isRunning (statusOf (statusAt (cells state) 0)) && has (regulated (tree policy)) a)
 asks-root policy state a e f g h =
     ap₂ (λ (x y : Bool). x && y) (f ∙ ap (λ (k : ℕ). isRunning (statusOf k)) e) (g ∙ ap (λ (r : ActionSet). has r a) h)
 
 root-asked : (policy state : Bytes) (a : Action)
-    → isAsked (regulated (tree policy)) (before a) (load (tree policy) state) ≡ (isRunning (statusOf (statusAt state 0)) && has (regulated (tree policy)) a)
+    → isAsked (regulated (tree policy)) (before a) (load (tree policy) (cells state)) ≡ (isRunning (statusOf (statusAt (cells state) 0)) && has (regulated (tree policy)) a)
 unfolding isAsked
 root-asked policy state a = ap (λ (s : Status). isRunning s && has (regulated (tree policy)) a) (sym (root-read policy state))
 
-pub offer-asked : (policy state : Bytes) (a : Action) {s : State} → s ≡ load (tree policy) state → T (asksRoot (Offer a) policy state)
+pub offer-asked : (policy state : Bytes) (a : Action) {s : State} → s ≡ load (tree policy) (cells state) → T (asksRoot (Offer a) policy state)
     → isAsked (regulated (tree policy)) (before a) s ≡ true
 unfolding asksRoot
 offer-asked policy state a e h =
     ap (isAsked (regulated (tree policy)) (before a)) e ∙ root-asked policy state a
-    ∙ yes-of (isRunning (statusOf (statusAt state 0)) && has (regulated (tree policy)) a) h
+    ∙ yes-of (isRunning (statusOf (statusAt (cells state) 0)) && has (regulated (tree policy)) a) h
 
 -- "accepted with no change": where it is not, every byte of the state is as it was
 pub stayed : (policy state room : Bytes) {room′ : Bytes} → Passed policy → length state ≡ stateSize → Small state → T (fits policy state) → (a : Action) {b : ℕ}
-    → (isRunning (statusOf (statusAt state 0)) && has (regulated (tree policy)) a) ≡ false → b ≡ statusAt state 0
+    → (isRunning (statusOf (statusAt (cells state) 0)) && has (regulated (tree policy)) a) ≡ false → b ≡ statusAt (cells state) 0
     → room′ ≡ put room 0 (eventBytes (eventOf (verdict false a))) → Gave (carriedOut policy (offer a) state room) (Answered 1 b) state room′
 unfolding carriedOut carried spoken verdict quiet items trace outcome events eventOf
 stayed policy state room {room′} ok size small fit a {b} e f g =
     let t : Tree = tree policy in
-    let same : state ≡ saved t (load t state) = sym (saved-load policy ok state size small fit) in
-    subst (λ (p : Process). Gave (carried t p room) (Answered 1 b) state room′) (sym (unasked t a (load t state) (root-asked policy state a ∙ e)))
+    let same : state ≡ saved t (load t (cells state)) = sym (saved-load policy ok state size small fit) in
+    subst (λ (p : Process). Gave (carried t p room) (Answered 1 b) state room′) (sym (unasked t a (load t (cells state)) (root-asked policy state a ∙ e)))
     (record { answer = ended ok 1 same f .answer; state = same; events = g })
 
 -- "Closing a decided root emits nothing and answers its status."
 pub closed : (policy state room : Bytes) → Passed policy → length state ≡ stateSize → Small state → T (fits policy state) → {b : ℕ} {v : Bool}
-    → b ≡ statusAt state 0 → v ≡ isRunning (statusOf b) → v ≡ false → Gave (carriedOut policy close state room) (Answered 0 b) state room
+    → b ≡ statusAt (cells state) 0 → v ≡ isRunning (statusOf b) → v ≡ false → Gave (carriedOut policy close state room) (Answered 0 b) state room
 unfolding carriedOut carried call spoken quiet items trace outcome events eventBytes
 closed policy state room ok size small fit {b} f g e =
     let t : Tree = tree policy in
-    let same : state ≡ saved t (load t state) = sym (saved-load policy ok state size small fit) in
-    let stopped : isRunning (status (load t state)) ≡ false =
+    let same : state ≡ saved t (load t (cells state)) = sym (saved-load policy ok state size small fit) in
+    let stopped : isRunning (status (load t (cells state))) ≡ false =
     ap isRunning (sym (root-read policy state)) ∙ ap (λ (k : ℕ). isRunning (statusOf k)) (sym f) ∙ sym g ∙ e in
-    subst (λ (p : Process). Gave (carried t p room) (Answered 0 b) state room) (sym (decided-quiet t (load t state) stopped))
+    subst (λ (p : Process). Gave (carried t p room) (Answered 0 b) state room) (sym (decided-quiet t (load t (cells state)) stopped))
     (record { answer = ended ok 0 same f .answer; state = same; events = sym (put-none room 0) })
 
 -- ---- which call it is

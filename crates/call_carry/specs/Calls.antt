@@ -10,7 +10,7 @@ use Rattle.spec_policy.specs.Records.{nodeCount, stepCount}
 use Rattle.spec_policy.specs.Tree.{regulated, tree}
 use Rattle.spec_check.specs.Passed.{Passed}
 use Rattle.spec_turns.specs.Status.{statusOf, isRunning}
-use Rattle.spec_turns.specs.Saved.{stateSize, statusAt, fits}
+use Rattle.spec_turns.specs.Saved.{stateSize, cells, statusAt, fits}
 use Rattle.spec_turns.specs.Entries.{eventRoom}
 use Rattle.call_answer.specs.declared.Call.{Call}
 use Rattle.call_answer.specs.declared.Call.the-variants.{Open, Offer, Close}
@@ -36,7 +36,7 @@ pub record Allowed (policy state room : Bytes) (call : Call) : Type 0 where
 -- Is the root asked? "Only a running node that regulates a is asked"; opening and closing are about no action.
 unfoldable pub asksRoot : Call → Bytes → Bytes → Bool
 asksRoot Open policy state = true
-asksRoot (Offer a) policy state = isRunning (statusOf (statusAt state 0)) && has (regulated (tree policy)) a
+asksRoot (Offer a) policy state = isRunning (statusOf (statusAt (cells state) 0)) && has (regulated (tree policy)) a
 asksRoot Close policy state = true
 
 -- A call that runs the root: an action that it is not asked about does not.

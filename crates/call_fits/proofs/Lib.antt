@@ -1,3 +1,4 @@
+mod CountLaws
 mod StatusLaws
 mod NodeLaws
 mod FileLaws

@@ -13,7 +13,7 @@ ghost use Rattle.spec_check.specs.Passed.{Passed};
 ghost use Rattle.file_records.specs.Kinds.{joinOf};
 ghost use Rattle.file_records.specs.Code.{codeFrom, StepsIn};
 ghost use Rattle.spec_turns.specs.Status.{statusOf};
-ghost use Rattle.spec_turns.specs.Saved.{stateSize, statuses, undecided, bare, waitsAt, fitsUnder, zerosUpTo, fits};
+ghost use Rattle.spec_turns.specs.Saved.{stateSize, cells, statuses, undecided, bare, waitsAt, fitsUnder, zerosUpTo, countFits, fits};
 ghost use Rattle.call_fits.specs.Alone.{fitsAlone};
 use file_records::Join;
 use file_records::Kind;
@@ -32,8 +32,10 @@ use turn_state::ENDED_RIGHT;
 use turn_state::HALTED;
 use turn_state::RUNNING;
 use turn_state::has_ended;
+use turn_state::is_ahead;
 use turn_state::is_empty_from;
 use turn_state::is_halted;
+use turn_state::running_leaf;
 use turn_state::saved_counter;
 use turn_state::saved_offset;
 use turn_state::saved_status;
@@ -43,7 +45,7 @@ use turn_state::saved_zeros;
 
 fn bare(state: &[u8], i: usize) -> bool
     requires { ⌜ (length (now state) ≡ stateSize) × (i < mostNodes) ⌝ }
-    ensures { λ r. ⌜ r ≡ bare (now (state .entry)) i ⌝ }
+    ensures { λ r. ⌜ r ≡ bare (cells (now (state .entry))) i ⌝ }
 {
     (saved_offset(state, i) == 0) & (saved_counter(state, i) == 0)
 }
@@ -52,7 +54,7 @@ fn bare(state: &[u8], i: usize) -> bool
 fn waits(policy: &[u8], first: usize, count: usize, start: u64, state: &[u8], i: usize) -> bool
     requires { ⌜ StepsIn (now policy) first count × (count ≤ mostLeafSteps) ⌝ }
     requires { ⌜ (length (now state) ≡ stateSize) × (i < mostNodes) ⌝ }
-    ensures { λ r. ⌜ r ≡ waitsAt (codeFrom (now (policy .entry)) first count) start (now (state .entry)) i ⌝ }
+    ensures { λ r. ⌜ r ≡ waitsAt (codeFrom (now (policy .entry)) first count) start (cells (now (state .entry))) i ⌝ }
 {
     let offset = saved_offset(state, i) as usize;
     if count <= offset {
@@ -105,7 +107,8 @@ fn sides_fit(join: Join, running: bool, l: u8, r: u8) -> bool
 fn leaf_fits(policy: &[u8], first: usize, count: usize, start: u64, state: &[u8], i: usize) -> bool
     requires { ⌜ StepsIn (now policy) first count × (count ≤ mostLeafSteps) ⌝ }
     requires { ⌜ (length (now state) ≡ stateSize) × (i < mostNodes) ⌝ }
-    ensures { λ r. ⌜ ((set : ActionSet) → r ≡ fitsAlone (spec.leaf i set start (codeFrom (now (policy .entry)) first count)) (now (state .entry))) ⌝ }
+    ensures { λ r. let code = codeFrom (now (policy .entry)) first count in
+        ⌜ ((set : ActionSet) → r ≡ fitsAlone (spec.leaf i set start code) (cells (now (state .entry)))) ⌝ }
 {
     let s = saved_status(state, i);
     if s == RUNNING {
@@ -116,7 +119,7 @@ fn leaf_fits(policy: &[u8], first: usize, count: usize, start: u64, state: &[u8]
 
 fn trivial_fits(state: &[u8], i: usize) -> bool
     requires { ⌜ (length (now state) ≡ stateSize) × (i < mostNodes) ⌝ }
-    ensures { λ r. ⌜ r ≡ fitsAlone (spec.trivial i) (now (state .entry)) ⌝ }
+    ensures { λ r. ⌜ r ≡ fitsAlone (spec.trivial i) (cells (now (state .entry))) ⌝ }
 {
     let s = saved_status(state, i);
     ((s == ENDED) | (s == DROPPED)) & bare(state, i)
@@ -124,7 +127,7 @@ fn trivial_fits(state: &[u8], i: usize) -> bool
 
 fn unsatisfiable_fits(state: &[u8], i: usize) -> bool
     requires { ⌜ (length (now state) ≡ stateSize) × (i < mostNodes) ⌝ }
-    ensures { λ r. ⌜ r ≡ fitsAlone (spec.unsatisfiable i) (now (state .entry)) ⌝ }
+    ensures { λ r. ⌜ r ≡ fitsAlone (spec.unsatisfiable i) (cells (now (state .entry))) ⌝ }
 {
     let s = saved_status(state, i);
     ((s == HALTED) | (s == DROPPED)) & bare(state, i)
@@ -135,9 +138,9 @@ fn pair_fits(join: Join, left: usize, right: usize, state: &[u8], i: usize, fit:
     requires { ⌜ (length (now state) ≡ stateSize) × (i < mostNodes) × (left < mostNodes) × (right < mostNodes) ⌝ }
     requires { ⌜ mostNodes ≤ length (now fit) ⌝ }
     ensures { λ b. ⌜ ((w : spec.Way) (l r : spec.Tree) → spec.numberOf l ≡ left → spec.numberOf r ≡ right
-        → getD (now (fit .entry)) left false ≡ fitsAlone l (now (state .entry))
-        → getD (now (fit .entry)) right false ≡ fitsAlone r (now (state .entry))
-        → b ≡ fitsAlone (spec.node w (joinOf join) i l r) (now (state .entry))) ⌝ }
+        → getD (now (fit .entry)) left false ≡ fitsAlone l (cells (now (state .entry)))
+        → getD (now (fit .entry)) right false ≡ fitsAlone r (cells (now (state .entry)))
+        → b ≡ fitsAlone (spec.node w (joinOf join) i l r) (cells (now (state .entry)))) ⌝ }
 {
     let s = saved_status(state, i);
     let l = saved_status(state, left);
@@ -163,8 +166,9 @@ fn node_fits(
     requires { ⌜ Passed (now policy) × (i < nodeCount (now policy)) ⌝ }
     requires { ⌜ (first ≡ firstStep (now policy) i) × (count ≡ nodeAt (now policy) (nodePlace i) .count) ⌝ }
     requires { ⌜ (length (now state) ≡ stateSize) × (mostNodes ≤ length (now fit)) ⌝ }
-    requires { ⌜ ((k : ℕ) → i < k → k < nodeCount (now policy) → getD (now fit) k false ≡ fitsAlone (treeAt (now policy) k) (now state)) ⌝ }
-    ensures { λ r. ⌜ r ≡ fitsAlone (treeAt (now (policy .entry)) i) (now (state .entry)) ⌝ }
+    requires { ⌜ ((k : ℕ) → i < k → k < nodeCount (now policy)
+        → getD (now fit) k false ≡ fitsAlone (treeAt (now policy) k) (cells (now state))) ⌝ }
+    ensures { λ r. ⌜ r ≡ fitsAlone (treeAt (now (policy .entry)) i) (cells (now (state .entry))) ⌝ }
 {
     let kind = view_kind(policy, i);
     match kind {
@@ -183,28 +187,32 @@ fn node_fits(
 
 // ---- the state
 
-// By rule 4 only a leaf counts steps, so each node's count moves back to where its own steps begin.
+// The nodes, and the count of those that are running leaves. By rule 4 only a leaf counts steps, so each node's count moves back to where its
+// own steps begin.
 fn tree_fits(policy: &[u8], n: usize, m: usize, state: &[u8]) -> bool
     requires { ⌜ Passed (now policy) × (n ≡ nodeCount (now policy)) × (m ≡ stepCount (now policy)) ⌝ }
     requires { ⌜ length (now state) ≡ stateSize ⌝ }
-    ensures { λ r. ⌜ r ≡ fitsUnder false (spec.tree (now (policy .entry))) (now (state .entry)) ⌝ }
+    ensures { λ r. let t = spec.tree (now (policy .entry)) in
+        ⌜ r ≡ (fitsUnder false t (cells (now (state .entry))) && countFits t (now (state .entry))) ⌝ }
 {
     let mut fit = [false; MOST_NODES];
     let mut first = m;
+    let mut leaves = 0;
     let mut i = n;
     while 0 < i {
         i -= 1;
         let count = view_count(policy, i) as usize;
         first -= count;
         fit[i] = node_fits(policy, i, first, count, state, &fit);
+        leaves += running_leaf(policy, i, saved_status(state, i));
     }
-    fit[0] & (saved_status(state, 0) != DROPPED)
+    fit[0] & (saved_status(state, 0) != DROPPED) & is_ahead(state, leaves)
 }
 
 // The two zeros of each of the first n records.
 fn zeros_kept(state: &[u8], n: usize) -> bool
     requires { ⌜ (length (now state) ≡ stateSize) × (n ≤ mostNodes) ⌝ }
-    ensures { λ r. ⌜ r ≡ zerosUpTo (now (state .entry)) n ⌝ }
+    ensures { λ r. ⌜ r ≡ zerosUpTo (cells (now (state .entry))) n ⌝ }
 {
     let mut i = n;
     while 0 < i {

@@ -12,7 +12,7 @@ use turn_state::is_halted;
 use turn_state::saved_status;
 use turn_told::EVENT_ROOM;
 
-// 11: "state buffer is not 248 bytes, or event buffer is under 512"
+// 11: "state buffer is not 248 bytes, or event buffer is under 512", and by request 04: "Refusal 11 now means 256 bytes"
 pub fn broken11(state: &[u8], events: &[u8]) -> bool
     ensures { λ r. ⌜ r ≡ broken11 (now (state .entry)) (now (events .entry)) ⌝ }
 {

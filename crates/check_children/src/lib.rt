@@ -23,7 +23,8 @@ fn count_node(policy: &[u8], at: usize, i: usize, n: usize, count: &mut [u8]) ->
     requires { ⌜ n ≤ length (now count) ⌝ }
     requires { ⌜ ((k : ℕ) → getD (now count) k 0 ≤ 2 * i) ⌝ }
     ensures { λ r. ⌜ r ≡ later n i (nodeAt (now (policy .entry)) at) ⌝ }
-    ensures { λ r. ⌜ (T r → (k : ℕ) → getD (now (count .exit)) k 0 ≡ occurs k (children (nodeAt (now (policy .entry)) at ∷ [])) + getD (now (count .entry)) k 0) ⌝ }
+    ensures { λ r. ⌜ (T r → (k : ℕ) → getD (now (count .exit)) k 0
+        ≡ occurs k (children (nodeAt (now (policy .entry)) at ∷ [])) + getD (now (count .entry)) k 0) ⌝ }
 {
     let kind = node_kind(policy, at);
     match kind {
@@ -47,7 +48,8 @@ fn count_nodes(policy: &[u8], n: usize, count: &mut [u8]) -> bool
     requires { ⌜ n ≤ length (now count) ⌝ }
     requires { ⌜ ((k : ℕ) → getD (now count) k 0 ≡ 0) ⌝ }
     ensures { λ r. ⌜ r ≡ everyAt (later n) 0 (listed (λ i. nodeAt (now (policy .entry)) (nodePlace i)) 0 n) ⌝ }
-    ensures { λ r. ⌜ (T r → (k : ℕ) → getD (now (count .exit)) k 0 ≡ occurs k (children (listed (λ i. nodeAt (now (policy .entry)) (nodePlace i)) 0 n))) ⌝ }
+    ensures { λ r. ⌜ (T r → (k : ℕ) → getD (now (count .exit)) k 0
+        ≡ occurs k (children (listed (λ i. nodeAt (now (policy .entry)) (nodePlace i)) 0 n))) ⌝ }
 {
     let mut i: usize = 0;
     while i < n {

@@ -149,7 +149,8 @@ fn lead_by(
     second: usize,
     seen: Marks,
 ) -> Led
-    requires { ⌜ (o < mostLeafSteps) × T (roomFor (ledBy idle first second)) × T (roomFor (ledBy pending first second)) × T (roomFor (ledBy closing first second)) ⌝ }
+    requires { ⌜ (o < mostLeafSteps) × T (roomFor (ledBy idle first second))
+        × T (roomFor (ledBy pending first second)) × T (roomFor (ledBy closing first second)) ⌝ }
     ensures { λ r. ⌜ LedBy (followed idle pending closing (has (seen .pending) o) (has (seen .closing) o)) first second seen r ⌝ }
 {
     if has_bit(seen.pending, o) {

@@ -2,9 +2,12 @@
 use Prim.Native.Nat.{ℕ, _+_, _*_}
 use native.Mathlib.Omega.{arith}
 use mathlib.Core.Path.{_≡_, refl, sym, ap, subst}
+use lib.ListN.{length}
+use borrow.Author.Tests.{eq-eqb, ne-eqb}
 use Rattle.spec_policy.specs.Bytes.{Bytes}
 use Rattle.spec_check.specs.Check.{Answer as Checked, passes, refused}
 use Rattle.spec_turns.specs.Status.{statusNumber}
+use Rattle.spec_turns.specs.Saved.{stateSize, countAt}
 use Rattle.spec_turns.specs.Turn.{Request}
 use Rattle.spec_turns.specs.Entries.{Reply, answers, refuses, entry}
 use Rattle.laws_turns.proofs.Bounds.{answered-emits}
@@ -14,7 +17,7 @@ use Rattle.call_answer.specs.Replies.{spoken}
 use Rattle.spec_writer.specs.Writing as writing
 use Rattle.file_writer.specs.Replies as replies
 use Rattle.file_writer.specs.declared.Written.the-variants as written
-use Rattle.fretmere.specs.Words.{Says, refusalWord, word, Few, sizeWord}
+use Rattle.fretmere.specs.Words.{Says, refusalWord, word, Few, countWord, sizeWord}
 
 pub answered-word : (n s : ℕ) (x : Reply) → Answered n s ≡ spoken x → s * 65536 + n ≡ word x
 unfolding spoken word
@@ -43,6 +46,16 @@ passed-says {r} {e} x a b p = subst (λ (y : Checked). Says y 0 a b r e) p (refl
 
 pub refused-says : {k : ℕ} (x : Checked) (a b : ℕ) → refused k ≡ x → Says x k a b a b
 refused-says {k} x a b p = subst (λ (y : Checked). Says y k a b a b) p (refl, (refl, refl))
+
+-- ---- the count
+
+pub count-word : (state : Bytes) → length state ≡ stateSize → countAt state ≡ countWord state
+unfolding countWord
+count-word state h = sym (rw (eq-eqb (length state) stateSize h, countWord))
+
+pub no-count : (state : Bytes) → (length state ≡ stateSize → ⊥) → refusalWord 11 ≡ countWord state
+unfolding countWord
+no-count state h = sym (rw (ne-eqb (length state) stateSize h, countWord))
 
 -- ---- the writer's answer
 

@@ -1,9 +1,13 @@
 -- What the C functions return: the entry points' answers, each in one word.
 use Prim.Native.Nat.{ℕ, _+_, _*_, _≤_}
 use mathlib.Core.Path.{_≡_}
+use mathlib.Core.Bool.{true, false}
+use lib.Dec.{eqb}
+use lib.ListN.{length}
 use Rattle.spec_policy.specs.Bytes.{Bytes}
 use Rattle.spec_check.specs.Check.{Answer, passes, refused}
 use Rattle.spec_turns.specs.Status.{statusNumber}
+use Rattle.spec_turns.specs.Saved.{stateSize, countAt}
 use Rattle.spec_turns.specs.Entries.{Reply, answers, refuses, Result}
 use Rattle.call_answer.specs.declared.Answer as guard
 use Rattle.call_answer.specs.declared.Answer.the-variants.{Answered, Refused}
@@ -33,6 +37,10 @@ pub record Gave (x : Result) (r : ℕ) (bytes room : Bytes) : Type 0 where
   pub answer : r ≡ word (x .reply)
   pub state : bytes ≡ x .state
   pub events : room ≡ x .events
+
+-- How many leaves still run (request 04): the count in a state of 256 bytes; of a buffer of another length refusal 11.
+unfoldable pub countWord : Bytes → ℕ
+countWord state = elim (eqb (length state) stateSize) [ true ↦ countAt state | false ↦ refusalWord 11 ]
 
 -- The writer: a refusal, or the length of the file.
 unfoldable pub sizeWord : writing.Reply → ℕ

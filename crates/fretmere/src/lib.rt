@@ -1,11 +1,11 @@
-// The static library for C: the four entry points and the writer on the caller's buffers, each answer in one word.
+// The static library for C: the four entry points, the writer, and the count of running leaves, on the caller's buffers, each answer in one word.
 ghost use mathlib.Core.Path.{_≡_};
 ghost use Rattle.spec_check.specs.Check.{check};
 ghost use Rattle.spec_turns.specs.Entries.{Reply, opens, offers, closes};
 ghost use Rattle.call_answer.specs.Replies.{spoken};
 ghost use Rattle.spec_writer.specs.Writing as writing;
 ghost use Rattle.file_writer.specs.Replies as replies;
-ghost use Rattle.fretmere.specs.Words.{Says, refusalWord, Few, word, Gave, sizeWord, Produced};
+ghost use Rattle.fretmere.specs.Words.{Says, refusalWord, Few, word, Gave, countWord, sizeWord, Produced};
 use call_answer::Answer;
 use check_policy::Checked;
 use check_policy::check;
@@ -14,6 +14,8 @@ use file_writer::write;
 use guard::close;
 use guard::offer;
 use guard::open;
+use turn_state::STATE_SIZE;
+use turn_state::saved_count;
 
 // Zero, and the two sets written; or the refusal's number, and nothing written.
 #[no_mangle]
@@ -73,6 +75,18 @@ pub extern "C" fn fretmere_close(policy: &[u8], state: &mut [u8], events: &mut [
     ensures { λ r. ⌜ Gave (closes (now (policy .entry)) (now (state .entry)) (now (events .entry))) r (now (state .exit)) (now (events .exit)) ⌝ }
 {
     packed(close(policy, state, events))
+}
+
+// The count that a state holds, for who would count its running leaves after every call. It is read, not tested: whether it is true is rule 12's,
+// and every answered call leaves it true.
+#[no_mangle]
+pub extern "C" fn fretmere_running_leaves(state: &[u8]) -> u32
+    ensures { λ r. ⌜ r ≡ countWord (now (state .entry)) ⌝ }
+{
+    if state.len() != STATE_SIZE {
+        return refused(11);
+    }
+    saved_count(state) as u32
 }
 
 // The writer's answer in one word: a refusal, or the length of the file.

@@ -13,7 +13,7 @@ use Rattle.spec_turns.specs.Status.{Status}
 use Rattle.spec_turns.specs.Process.{items, trace}
 use Rattle.spec_turns.specs.Turn.{Request, call}
 use Rattle.spec_turns.specs.Events.{Event, accepted, suppressed, inserted, events, eventBytes}
-use Rattle.spec_turns.specs.Saved.{load}
+use Rattle.spec_turns.specs.Saved.{cells, load}
 use Rattle.spec_turns.specs.Entries.{Reply, answers, refuses, eventRoom, Result, carriedOut, entry}
 use Rattle.laws_turns.proofs.Spread.{events-bound}
 use Rattle.laws_turns.proofs.Answered.{Answered, answered, room-kept, file-passed}
@@ -32,14 +32,14 @@ eventsIn (refuses n) = 0
 
 module _ (policy : Bytes) (q : Request) (state room : Bytes) where
   told : List Event
-  told = events (items (trace (call (tree policy) q (load (tree policy) state))))
+  told = events (items (trace (call (tree policy) q (load (tree policy) (cells state)))))
 
   pub answered-emits : (n : ℕ) (s : Status) → entry policy q state room .reply ≡ answers n s → Emits policy q state room n
   unfolding carriedOut told eventsIn
   answered-emits n s e =
       let h : Answered policy q state room = answered policy q state room n s e in
       let count : length told ≡ n = sym (ap (λ (x : Result). eventsIn (x .reply)) (h .given)) ∙ ap eventsIn e in
-      let most : length told ≤ spread (tree policy) + 1 = events-bound (tree policy) (lawful policy (file-passed policy q state room h)) q (load (tree policy) state) in
+      let most : length told ≤ spread (tree policy) + 1 = events-bound (tree policy) (lawful policy (file-passed policy q state room h)) q (load (tree policy) (cells state)) in
       let narrow : spread (tree policy) ≤ 255 = spread-255 policy (file-passed policy q state room h) in
       let wide : eventRoom ≤ length room = room-kept policy q state room h .event-room in
       let long : length (eventBytes told) ≡ 2 * n = two-each told ∙ ap (λ (k : ℕ). 2 * k) count in

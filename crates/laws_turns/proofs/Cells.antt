@@ -18,7 +18,7 @@ use Rattle.spec_policy.proofs.NumberLaws.{byte-first, number-first, number-last
 use Rattle.spec_check.specs.Lawful.{holds, Disjoint, Numbered, Lawful}
 use Rattle.spec_turns.specs.Status.{Status, running, ended, endedLeft, endedRight, halted, dropped, statusNumber, statusOf}
 use Rattle.spec_turns.specs.State.{State, leafState, pairState, status, offset, counter, leftOf, rightOf}
-use Rattle.spec_turns.specs.Saved.{cellSize, stateSize, cellPlace, statusAt, offsetAt, zerosAt, counterAt, cell, load, store, saved}
+use Rattle.spec_turns.specs.Saved.{cellSize, cellsSize, stateSize, cells, cellPlace, statusAt, offsetAt, zerosAt, counterAt, cell, load, store, savedCells}
 use Rattle.spec_turns.specs.Rest.{gone, AtRest, leaf-waits, leaf-ended, leaf-halted, trivial-ended, unsatisfiable-halted, pair-runs, pair-decided}
 use Rattle.laws_turns.specs.Cells.{Below, Sized, cellAt, Stored, leaf-held, trivial-held, unsatisfiable-held, pair-held}
 use Rattle.spec_check.specs.Numbers.{Distinct}
@@ -47,11 +47,16 @@ lawful-apart (node w j i l r) h = (lawful-apart l (h .0), lawful-apart r (h .1),
 
 -- ---- one cell
 
+-- the cells of a state
+pub cells-size : (state : Bytes) → length state ≡ stateSize → length (cells state) ≡ cellsSize
+unfolding cells
+cells-size state h = simp (length-drop, h) refl
+
 pub cell-length : (s : State) → length (cell s) ≡ cellSize
 unfolding cell
 cell-length s = ap (λ (n : ℕ). suc (suc (suc (suc n)))) (spell-length 4 (counter s))
 
-module _ (bs : Bytes) (i : ℕ) (size : length bs ≡ stateSize) (below : i < mostNodes) where
+module _ (bs : Bytes) (i : ℕ) (size : length bs ≡ cellsSize) (below : i < mostNodes) where
   pub status-cell : statusAt bs i ≡ number (cellAt bs i) 0 1
   unfolding statusAt cellAt
   status-cell = let e : cellPlace i + 0 ≡ cellPlace i = omega arith in sym (number-part bs (cellPlace i) cellSize 0 1 (omega arith) (omega arith) ∙ ap (λ (k : ℕ). number bs k 1) e)
@@ -97,7 +102,7 @@ module _ (bs : Bytes) (i : ℕ) (size : length bs ≡ stateSize) (below : i < mo
     cell-of s e f g h = cell-again ∙ rw (e, f, g, h)
 
 -- cells that agree are read alike
-pub cell-same : (bs cs : Bytes) (i : ℕ) → length bs ≡ stateSize → length cs ≡ stateSize → i < mostNodes → cellAt bs i ≡ cellAt cs i
+pub cell-same : (bs cs : Bytes) (i : ℕ) → length bs ≡ cellsSize → length cs ≡ cellsSize → i < mostNodes → cellAt bs i ≡ cellAt cs i
     → (statusAt bs i ≡ statusAt cs i) × (offsetAt bs i ≡ offsetAt cs i) × (zerosAt bs i ≡ zerosAt cs i) × (counterAt bs i ≡ counterAt cs i)
 cell-same bs cs i z y below e = (
   status-cell bs i z below ∙ ap (λ (c : Bytes). number c 0 1) e ∙ sym (status-cell cs i y below),
@@ -107,21 +112,21 @@ cell-same bs cs i z y below e = (
 )
 
 -- the room of cell i
-fits-cell : (bs : Bytes) (i : ℕ) (s : State) → length bs ≡ stateSize → i < mostNodes → cellPlace i + length (cell s) ≤ length bs
+fits-cell : (bs : Bytes) (i : ℕ) (s : State) → length bs ≡ cellsSize → i < mostNodes → cellPlace i + length (cell s) ≤ length bs
 unfolding cellPlace
 fits-cell bs i s size below = omega (arith, cell-length s)
 
-pub put-size : (bs : Bytes) (i : ℕ) (s : State) → length bs ≡ stateSize → i < mostNodes → length (put bs (cellPlace i) (cell s)) ≡ stateSize
+pub put-size : (bs : Bytes) (i : ℕ) (s : State) → length bs ≡ cellsSize → i < mostNodes → length (put bs (cellPlace i) (cell s)) ≡ cellsSize
 put-size bs i s size below = put-length bs (cellPlace i) (cell s) (fits-cell bs i s size below) ∙ size
 
-pub put-cell : (bs : Bytes) (i : ℕ) (s : State) → length bs ≡ stateSize → i < mostNodes → cellAt (put bs (cellPlace i) (cell s)) i ≡ cell s
+pub put-cell : (bs : Bytes) (i : ℕ) (s : State) → length bs ≡ cellsSize → i < mostNodes → cellAt (put bs (cellPlace i) (cell s)) i ≡ cell s
 unfolding cellAt cell spell
 put-cell bs i s size below =
     let e : cellPlace i ≡ cellPlace i + 0 = omega arith in
     ap (λ (k : ℕ). take cellSize (drop k (put bs (cellPlace i) (cell s)))) e
     ∙ part-inside bs (cellPlace i) (cell s) 0 cellSize (fits-cell bs i s size below) (omega (arith, cell-length s))
 
-pub put-elsewhere : (bs : Bytes) (i k : ℕ) (s : State) → length bs ≡ stateSize → i < mostNodes → eqb i k ≡ false
+pub put-elsewhere : (bs : Bytes) (i k : ℕ) (s : State) → length bs ≡ cellsSize → i < mostNodes → eqb i k ≡ false
     → cellAt (put bs (cellPlace i) (cell s)) k ≡ cellAt bs k
 unfolding cellAt
 put-elsewhere bs i k s size below e = go (ltb k i) refl
@@ -150,18 +155,18 @@ store-by P (unsatisfiable i) h s bs p = h i (eqb-refl i) s bs p
 store-by P (node w j i l r) h s bs p =
     store-by P r (λ k u. h k (holds-right w j i l r k u)) _ _ (store-by P l (λ k u. h k (holds-left w j i l r k u)) _ _ (h i (holds-here w j i l r) s bs p))
 
--- the same of what is true of bytes of a state's size
+-- the same of what is true of bytes of the cells' size
 pub store-sized : (P : Bytes → Type 0) (t : Tree) → Below mostNodes t
-    → ((i : ℕ) → T (holds t i) → (s : State) (bs : Bytes) → length bs ≡ stateSize → P bs → P (put bs (cellPlace i) (cell s)))
-    → (s : State) (bs : Bytes) → length bs ≡ stateSize → P bs → (length (store t s bs) ≡ stateSize) × P (store t s bs)
+    → ((i : ℕ) → T (holds t i) → (s : State) (bs : Bytes) → length bs ≡ cellsSize → P bs → P (put bs (cellPlace i) (cell s)))
+    → (s : State) (bs : Bytes) → length bs ≡ cellsSize → P bs → (length (store t s bs) ≡ cellsSize) × P (store t s bs)
 store-sized P t below h s bs size p =
-    store-by (λ (cs : Bytes). (length cs ≡ stateSize) × P cs) t (λ i u x cs q. (put-size cs i x (q .0) (below i u), h i u x cs (q .0) (q .1))) s bs (size, p)
+    store-by (λ (cs : Bytes). (length cs ≡ cellsSize) × P cs) t (λ i u x cs q. (put-size cs i x (q .0) (below i u), h i u x cs (q .0) (q .1))) s bs (size, p)
 
-pub store-length : (t : Tree) → Below mostNodes t → (s : State) (bs : Bytes) → length bs ≡ stateSize → length (store t s bs) ≡ stateSize
+pub store-length : (t : Tree) → Below mostNodes t → (s : State) (bs : Bytes) → length bs ≡ cellsSize → length (store t s bs) ≡ cellsSize
 store-length t below s bs size = store-sized (λ cs. Unit {0}) t below (λ i u x cs z q. tt) s bs size tt .0
 
 -- storing one tree leaves the cells of all other nodes
-pub store-elsewhere : (t : Tree) → Below mostNodes t → (s : State) (bs : Bytes) → length bs ≡ stateSize → (k : ℕ) → holds t k ≡ false
+pub store-elsewhere : (t : Tree) → Below mostNodes t → (s : State) (bs : Bytes) → length bs ≡ cellsSize → (k : ℕ) → holds t k ≡ false
     → cellAt (store t s bs) k ≡ cellAt bs k
 store-elsewhere t below s bs size k e =
     store-sized (λ cs. cellAt cs k ≡ cellAt bs k) t below
@@ -221,7 +226,7 @@ below-left n w j i l r h k u = h k (holds-left w j i l r k u)
 pub below-right : (n : ℕ) (w : Way) (j : Join) (i : ℕ) (l r : Tree) → Below n (node w j i l r) → Below n r
 below-right n w j i l r h k u = h k (holds-right w j i l r k u)
 
-pub store-kept : (t : Tree) → Distinct t → Below mostNodes t → (s : State) (bs : Bytes) → length bs ≡ stateSize → Kept t s (store t s bs)
+pub store-kept : (t : Tree) → Distinct t → Below mostNodes t → (s : State) (bs : Bytes) → length bs ≡ cellsSize → Kept t s (store t s bs)
 unfolding Distinct Kept store holds Disjoint
 store-kept (leaf i r c code) apart below s bs size = put-cell bs i s size (below i (eqb-refl i))
 store-kept (trivial i) apart below s bs size = put-cell bs i s size (below i (eqb-refl i))
@@ -231,9 +236,9 @@ store-kept (node w j i l r) apart below s bs size =
     let bl : Below mostNodes l = below-left mostNodes w j i l r below in
     let br : Below mostNodes r = below-right mostNodes w j i l r below in
     let b₀ : Bytes = put bs (cellPlace i) (cell s) in
-    let z₀ : length b₀ ≡ stateSize = put-size bs i s size bi in
+    let z₀ : length b₀ ≡ cellsSize = put-size bs i s size bi in
     let b₁ : Bytes = store l (leftOf s) b₀ in
-    let z₁ : length b₁ ≡ stateSize = store-length l bl (leftOf s) b₀ z₀ in
+    let z₁ : length b₁ ≡ cellsSize = store-length l bl (leftOf s) b₀ z₀ in
     let n : Numbered i l r = apart .2 in
     let past : (k : ℕ) → holds r k ≡ false → cellAt (store r (rightOf s) b₁) k ≡ cellAt b₁ k = store-elsewhere r br (rightOf s) b₁ z₁ in (
       past i (n .not-right) ∙ store-elsewhere l bl (leftOf s) b₀ z₀ i (n .not-left) ∙ put-cell bs i s size bi,
@@ -251,12 +256,12 @@ zero-byte = omega arith
 pub zero-word : 0 < 256 ^ 4
 zero-word = omega arith
 
-read-same : (bs cs : Bytes) (i : ℕ) → length bs ≡ stateSize → length cs ≡ stateSize → i < mostNodes → cellAt bs i ≡ cellAt cs i
+read-same : (bs cs : Bytes) (i : ℕ) → length bs ≡ cellsSize → length cs ≡ cellsSize → i < mostNodes → cellAt bs i ≡ cellAt cs i
     → leafState (statusOf (statusAt bs i)) false (offsetAt bs i) (counterAt bs i) ≡ leafState (statusOf (statusAt cs i)) false (offsetAt cs i) (counterAt cs i)
 read-same bs cs i z y below e = let q = cell-same bs cs i z y below e in rw (q .0, q .1, q .3)
 
 -- what is loaded of a tree goes by its cells alone
-pub load-same : (t : Tree) → Below mostNodes t → (bs cs : Bytes) → length bs ≡ stateSize → length cs ≡ stateSize
+pub load-same : (t : Tree) → Below mostNodes t → (bs cs : Bytes) → length bs ≡ cellsSize → length cs ≡ cellsSize
     → ((i : ℕ) → T (holds t i) → cellAt bs i ≡ cellAt cs i) → load t bs ≡ load t cs
 unfolding holds load
 load-same (leaf i r c code) below bs cs z y h = read-same bs cs i z y (below i (eqb-refl i)) (h i (eqb-refl i))
@@ -270,7 +275,7 @@ load-same (node w j i l r) below bs cs z y h =
 
 -- so storing one tree leaves what is loaded of another that shares no number with it
 pub load-elsewhere : (t u : Tree) → Below mostNodes t → Below mostNodes u → ((i : ℕ) → T (holds u i) → holds t i ≡ false)
-    → (s : State) (bs : Bytes) → length bs ≡ stateSize → load u (store t s bs) ≡ load u bs
+    → (s : State) (bs : Bytes) → length bs ≡ cellsSize → load u (store t s bs) ≡ load u bs
 load-elsewhere t u below under d s bs size =
     load-same u under (store t s bs) bs (store-length t below s bs size) size (λ i h. store-elsewhere t below s bs size i (d i h))
 
@@ -284,10 +289,10 @@ status-back halted = refl
 status-back dropped = refl
 
 -- the status of a cell that is a state's
-status-read : (bs : Bytes) (i : ℕ) → length bs ≡ stateSize → i < mostNodes → (s : State) → cellAt bs i ≡ cell s → statusOf (statusAt bs i) ≡ status s
+status-read : (bs : Bytes) (i : ℕ) → length bs ≡ cellsSize → i < mostNodes → (s : State) → cellAt bs i ≡ cell s → statusOf (statusAt bs i) ≡ status s
 status-read bs i size below s is = ap statusOf (status-is bs i size below s is) ∙ status-back (status s)
 
-cell-read : (bs : Bytes) (i : ℕ) → length bs ≡ stateSize → i < mostNodes → (s : Status) (o c : ℕ) → c < 256 ^ 4 → cellAt bs i ≡ cell (leafState s false o c)
+cell-read : (bs : Bytes) (i : ℕ) → length bs ≡ cellsSize → i < mostNodes → (s : Status) (o c : ℕ) → c < 256 ^ 4 → cellAt bs i ≡ cell (leafState s false o c)
     → leafState (statusOf (statusAt bs i)) false (offsetAt bs i) (counterAt bs i) ≡ leafState s false o c
 cell-read bs i size below s o c h is =
     let x : State = leafState s false o c in
@@ -296,7 +301,7 @@ cell-read bs i size below s o c h is =
     let g : counterAt bs i ≡ c = unfold counter in counter-is bs i size below x is h in
     cc
 
-pub kept-load : (t : Tree) (s : State) (bs : Bytes) → Below mostNodes t → length bs ≡ stateSize → Stored t s → Kept t s bs → load t bs ≡ s
+pub kept-load : (t : Tree) (s : State) (bs : Bytes) → Below mostNodes t → length bs ≡ cellsSize → Stored t s → Kept t s bs → load t bs ≡ s
 unfolding Kept holds load leftOf rightOf status
 kept-load (leaf i r c₀ code) (leafState s false o c) bs below size (leaf-held g h) k = cell-read bs i size (below i (eqb-refl i)) s o c h k
 kept-load (trivial i) (leafState s false o c) bs below size (trivial-held g h) k = cell-read bs i size (below i (eqb-refl i)) s o c h k
@@ -307,7 +312,7 @@ kept-load (node w j i l r) (pairState s false a b) bs below size (pair-held h g)
     let g : load r bs ≡ b = kept-load r b bs (below-right mostNodes w j i l r below) size g (k .2) in
     cc
 
-pub load-store : (t : Tree) → Distinct t → Below mostNodes t → (s : State) → Stored t s → (bs : Bytes) → length bs ≡ stateSize → load t (store t s bs) ≡ s
+pub load-store : (t : Tree) → Distinct t → Below mostNodes t → (s : State) → Stored t s → (bs : Bytes) → length bs ≡ cellsSize → load t (store t s bs) ≡ s
 load-store t apart below s h bs size = kept-load t s (store t s bs) below (store-length t below s bs size) h (store-kept t apart below s bs size)
 
 -- ---- a state at rest
@@ -329,18 +334,18 @@ rest-stored z unsatisfiable-halted = unsatisfiable-held zero-byte zero-word
 rest-stored z (pair-runs a b e) = pair-held (rest-stored (z .0) a) (rest-stored (z .1) b)
 rest-stored z (pair-decided {l = l} {r = r} d a b) = pair-held (subst (λ (x : State). Stored l x) (sym a) (gone-stored l)) (subst (λ (x : State). Stored r x) (sym b) (gone-stored r))
 
-blank : length (replicate stateSize zero) ≡ stateSize
-blank = length-replicate stateSize zero
+blank : length (replicate cellsSize zero) ≡ cellsSize
+blank = length-replicate cellsSize zero
 
-pub saved-length : (t : Tree) → Below mostNodes t → (s : State) → length (saved t s) ≡ stateSize
-unfolding saved
-saved-length t below s = store-length t below s (replicate stateSize 0) blank
+pub cells-length : (t : Tree) → Below mostNodes t → (s : State) → length (savedCells t s) ≡ cellsSize
+unfolding savedCells
+cells-length t below s = store-length t below s (replicate cellsSize 0) blank
 
-pub saved-kept : (t : Tree) → Distinct t → Below mostNodes t → (s : State) → Kept t s (saved t s)
-unfolding saved
-saved-kept t apart below s = store-kept t apart below s (replicate stateSize 0) blank
+pub cells-kept : (t : Tree) → Distinct t → Below mostNodes t → (s : State) → Kept t s (savedCells t s)
+unfolding savedCells
+cells-kept t apart below s = store-kept t apart below s (replicate cellsSize 0) blank
 
--- reading back a saved state gives the state that was saved
-pub load-saved : (t : Tree) → Distinct t → Below mostNodes t → Sized t → (s : State) → AtRest t s → load t (saved t s) ≡ s
-unfolding saved
-load-saved t apart below sized s rest = load-store t apart below s (rest-stored sized rest) (replicate stateSize 0) blank
+-- reading back the cells of a saved state gives the state that was saved
+pub load-cells : (t : Tree) → Distinct t → Below mostNodes t → Sized t → (s : State) → AtRest t s → load t (savedCells t s) ≡ s
+unfolding savedCells
+load-cells t apart below sized s rest = load-store t apart below s (rest-stored sized rest) (replicate cellsSize 0) blank

@@ -2,31 +2,32 @@
 use Prim.Native.Nat.{ℕ, zero, suc, _+_, _^_, _≤_, _<_}
 use native.Mathlib.Nat.{eq-or-lt-of-le}
 use native.Mathlib.Omega.{arith}
-use mathlib.Core.Path.{_≡_, refl, sym, ap, _∙_, subst}
+use mathlib.Core.Path.{_≡_, refl, sym, ap, ap₂, _∙_, subst}
 use mathlib.Core.Logic.{⊎-elim}
 use mathlib.Core.Bool.{Bool, true, false, _&&_, _||_, not, Bool·beq}
-use mathlib.Core.List.{List, [], _∷_}
+use mathlib.Core.List.{List, [], _∷_, _++_}
 use lib.Dec.{T, eqb, leb, eqb→eq, eqb-refl, leb→le, le→leb}
 use lib.ListN.{length, drop, getD, replicate, length-replicate}
 use Rattle.actions.specs.Sets.{ActionSet}
 use Rattle.actions.proofs.Tests.{of-yes, and-intro, and-left, and-right, or-cases, not-false, yes-of}
-use Rattle.spec_policy.specs.Bytes.{Bytes, put, Small}
+use Rattle.spec_policy.specs.Bytes.{Bytes, spelt, number, spell, put, Small}
 use Rattle.spec_policy.specs.Lists.{among, every}
 use Rattle.spec_policy.specs.Records.{mostNodes, nodeCount}
 use Rattle.spec_policy.specs.Steps.{Step, halt, isNext}
 use Rattle.spec_policy.specs.Tree.{Way, Join, and, or, Tree, leaf, trivial, unsatisfiable, node, numberOf, tree}
 use Rattle.spec_policy.proofs.ListLaws.{every-drop}
 use Rattle.spec_policy.proofs.ByteLaws.{drop-after, zeros-every, number-zeros}
+use Rattle.spec_policy.proofs.NumberLaws.{byte-first, number-first}
 use Rattle.spec_check.specs.Lawful.{holds}
 use Rattle.spec_turns.specs.Status.{Status, running, ended, endedLeft, endedRight, halted, dropped, statusNumber, statusOf, isRunning, hasEnded, isHalted, joined}
 use Rattle.spec_turns.specs.State.{State, leafState, pairState, status, offset, counter, leftOf, rightOf}
-use Rattle.spec_turns.specs.Saved.{stateSize, cellPlace, statusAt, offsetAt, zerosAt, counterAt, cell, load, store, saved, droppedWith, isRunningAt, statuses, undecided, bare}
-use Rattle.spec_turns.specs.Saved.{waitsAt, fitsUnder, zerosUpTo, fits}
+use Rattle.spec_turns.specs.Saved.{countPlace, cellsSize, stateSize, cells, cellPlace, statusAt, offsetAt, zerosAt, counterAt, cell, load, store, savedCells, runningLeaves, ahead, saved}
+use Rattle.spec_turns.specs.Saved.{droppedWith, isRunningAt, statuses, undecided, bare, waitsAt, fitsUnder, zerosUpTo, cellsFit, countAt, countFits, fits}
 use Rattle.spec_turns.specs.Rest.{gone, decidedBy, AtRest, leaf-waits, leaf-ended, leaf-halted, trivial-ended, unsatisfiable-halted, pair-runs, pair-decided}
 use Rattle.laws_turns.proofs.Cells.{holds-here, holds-left, holds-right, below-more, below-here, below-left, below-right, cell-length, cell-of, cell-same, put-size, put-cell, put-elsewhere}
 use Rattle.laws_turns.specs.Cells.{Below, Sized, cellAt}
 use Rattle.spec_check.specs.Numbers.{Distinct}
-use Rattle.laws_turns.proofs.Cells.{store-sized, zeros-is, zero-word, status-back, status-is, offset-is, counter-is, Kept, kept-load, rest-stored, saved-kept, saved-length}
+use Rattle.laws_turns.proofs.Cells.{store-sized, zeros-is, zero-word, status-back, status-is, offset-is, counter-is, Kept, kept-load, rest-stored, cells-kept, cells-length, load-cells}
 use Rattle.spec_turns.proofs.StatusLaws.{is-running}
 
 -- ---- a running pair
@@ -261,7 +262,7 @@ fits-rest (node w j i l r) bs h = go (isRunningAt bs i) refl (pair-parts false w
 
 -- ---- what fits holds the cells of the state that it is read as
 
-module _ (bs : Bytes) (size : length bs ≡ stateSize) (small : Small bs) where
+module _ (bs : Bytes) (size : length bs ≡ cellsSize) (small : Small bs) where
   -- a node that has no sides: its cell is read whole
   leaf-cell : (i : ℕ) (ns : List ℕ) → T (every (λ k. eqb k (statusNumber (statusOf k))) ns) → (i < mostNodes) × (zerosAt bs i ≡ 0) → T (among (statusAt bs i) ns)
       → cellAt bs i ≡ cell (leafState (statusOf (statusAt bs i)) false (offsetAt bs i) (counterAt bs i))
@@ -322,7 +323,7 @@ decided-parts or endedRight d = (tt, tt, refl)
 decided-parts or halted d = (tt, tt, refl)
 decided-parts or dropped d = absurd d
 
-module _ (bs : Bytes) (size : length bs ≡ stateSize) where
+module _ (bs : Bytes) (size : length bs ≡ cellsSize) where
   -- the readings of a cell that is a state's
   reads-at : (i : ℕ) → i < mostNodes → (x : Status) (o c : ℕ) → c < 256 ^ 4 → cellAt bs i ≡ cell (leafState x false o c)
       → (statusAt bs i ≡ statusNumber x) × (offsetAt bs i ≡ o) × (counterAt bs i ≡ c)
@@ -412,12 +413,12 @@ module _ (bs : Bytes) (size : length bs ≡ stateSize) where
       pair-fits false w j i l r x a b (below-here mostNodes w j i l r below) (k .0) (h .0) (h .1) (rw (h .2) tt) (rw (h .2) fl) (rw (h .2) fr)
 
 -- every cell that is stored has its two zeros
-store-zeros : (t : Tree) → Below mostNodes t → (s : State) (bs : Bytes) → length bs ≡ stateSize → ((i : ℕ) → i < mostNodes → zerosAt bs i ≡ 0)
+store-zeros : (t : Tree) → Below mostNodes t → (s : State) (bs : Bytes) → length bs ≡ cellsSize → ((i : ℕ) → i < mostNodes → zerosAt bs i ≡ 0)
     → (i : ℕ) → i < mostNodes → zerosAt (store t s bs) i ≡ 0
 store-zeros t below s bs size h =
     store-sized (λ cs. (i : ℕ) → i < mostNodes → zerosAt cs i ≡ 0) t below (λ k u x cs z p i b. go k (below k u) x cs z i b (p i b) (eqb k i) refl) s bs size h .1
   where
-    go : (k : ℕ) → k < mostNodes → (x : State) (cs : Bytes) → length cs ≡ stateSize → (i : ℕ) → i < mostNodes → zerosAt cs i ≡ 0 → (b : Bool) → eqb k i ≡ b
+    go : (k : ℕ) → k < mostNodes → (x : State) (cs : Bytes) → length cs ≡ cellsSize → (i : ℕ) → i < mostNodes → zerosAt cs i ≡ 0 → (b : Bool) → eqb k i ≡ b
         → zerosAt (put cs (cellPlace k) (cell x)) i ≡ 0
     go k bk x cs z i bi p true e =
         let ds : Bytes = put cs (cellPlace k) (cell x) in
@@ -426,7 +427,7 @@ store-zeros t below s bs size h =
         cell-same (put cs (cellPlace k) (cell x)) cs i (put-size cs k x z bk) z bi (put-elsewhere cs k i x z bk e) .2 ∙ p
 
 -- and none is stored from the bound of the numbers on
-store-tail : (n : ℕ) → n ≤ mostNodes → (t : Tree) → Below n t → (s : State) (bs : Bytes) → length bs ≡ stateSize
+store-tail : (n : ℕ) → n ≤ mostNodes → (t : Tree) → Below n t → (s : State) (bs : Bytes) → length bs ≡ cellsSize
     → drop (cellPlace n) (store t s bs) ≡ drop (cellPlace n) bs
 unfolding cellPlace
 store-tail n most t below s bs size =
@@ -441,23 +442,23 @@ zeros-up-to bs (suc n) h =
     and-intro (eqb (zerosAt bs n) 0) (zerosUpTo bs n) (subst (λ (m : ℕ). T (eqb m 0)) (sym (h n (omega arith))) (eqb-refl 0)) (zeros-up-to bs n (λ i l. h i (omega arith)))
 
 module _ (n : ℕ) (most : n ≤ mostNodes) (t : Tree) (below : Below n t) where
-  pub rest-fits : Distinct t → Sized t → (s : State) → AtRest t s → T (fitsUnder false t (saved t s))
+  pub rest-fits : Distinct t → Sized t → (s : State) → AtRest t s → T (fitsUnder false t (savedCells t s))
   rest-fits apart sized s rest =
       let b : Below mostNodes t = below-more n most t below in
-      kept-fits (saved t s) (saved-length t b s) b sized rest (saved-kept t apart b s)
+      kept-fits (savedCells t s) (cells-length t b s) b sized rest (cells-kept t apart b s)
 
-  pub saved-zeros : (s : State) → T (zerosUpTo (saved t s) n)
-  unfolding saved
-  saved-zeros s =
-      zeros-up-to (saved t s) n
-      (λ i l. store-zeros t (below-more n most t below) s (replicate stateSize zero) (length-replicate stateSize zero)
-      (λ k b. unfold zerosAt in number-zeros (replicate stateSize zero) (cellPlace k + 2) 2 (zeros-every stateSize)) i (omega arith))
+  pub cells-zeros : (s : State) → T (zerosUpTo (savedCells t s) n)
+  unfolding savedCells
+  cells-zeros s =
+      zeros-up-to (savedCells t s) n
+      (λ i l. store-zeros t (below-more n most t below) s (replicate cellsSize zero) (length-replicate cellsSize zero)
+      (λ k b. unfold zerosAt in number-zeros (replicate cellsSize zero) (cellPlace k + 2) 2 (zeros-every cellsSize)) i (omega arith))
 
-  pub saved-tail : (s : State) → T (every (λ b. eqb b 0) (drop (cellPlace n) (saved t s)))
-  unfolding saved
-  saved-tail s =
-      subst (λ (zs : Bytes). T (every (λ b. eqb b 0) zs)) (sym (store-tail n most t below s (replicate stateSize zero) (length-replicate stateSize zero)))
-      (every-drop (λ b. eqb b 0) (cellPlace n) (replicate stateSize zero) (zeros-every stateSize))
+  pub cells-tail : (s : State) → T (every (λ b. eqb b 0) (drop (cellPlace n) (savedCells t s)))
+  unfolding savedCells
+  cells-tail s =
+      subst (λ (zs : Bytes). T (every (λ b. eqb b 0) zs)) (sym (store-tail n most t below s (replicate cellsSize zero) (length-replicate cellsSize zero)))
+      (every-drop (λ b. eqb b 0) (cellPlace n) (replicate cellsSize zero) (zeros-every cellsSize))
 
 -- ---- rule 12 of a policy
 
@@ -469,30 +470,100 @@ zeros-each bs (suc n) h i l = ⊎-elim
     (λ (e : i < n). zeros-each bs n (and-right (eqb (zerosAt bs n) 0) (zerosUpTo bs n) h) i e)
     (eq-or-lt-of-le (omega arith))
 
--- the parts of the rule
+-- the parts of the rule, of the cells
 pub record Fitting (policy bs : Bytes) : Type 0 where
   pub nodes-fit : T (fitsUnder false (tree policy) bs)
   pub zeros : (i : ℕ) → i < nodeCount policy → zerosAt bs i ≡ 0
   pub rest-zero : T (every (λ b. eqb b 0) (drop (cellPlace (nodeCount policy)) bs))
 
-pub fitting : (policy bs : Bytes) → T (fits policy bs) → Fitting policy bs
-unfolding fits
+pub fitting : (policy bs : Bytes) → T (cellsFit policy bs) → Fitting policy bs
+unfolding cellsFit
 fitting policy bs h =
     let p = three (fitsUnder false (tree policy) bs) (zerosUpTo bs (nodeCount policy)) (every (λ b. eqb b 0) (drop (cellPlace (nodeCount policy)) bs)) h in
     record { nodes-fit = p .0; zeros = zeros-each bs (nodeCount policy) (p .1); rest-zero = p .2 }
 
+-- cells that fit are at rest
+cells-rest : (policy bs : Bytes) → T (cellsFit policy bs) → AtRest (tree policy) (load (tree policy) bs)
+cells-rest policy bs h = fits-rest (tree policy) bs (fitting policy bs h .nodes-fit)
+
+-- the cells of a saved state at rest fit
+cells-fit : (policy : Bytes) → nodeCount policy ≤ mostNodes → Below (nodeCount policy) (tree policy) → Distinct (tree policy) → Sized (tree policy)
+    → (s : State) → AtRest (tree policy) s → T (cellsFit policy (savedCells (tree policy) s))
+unfolding cellsFit
+cells-fit policy most below apart sized s rest =
+    let n : ℕ = nodeCount policy in
+    let t : Tree = tree policy in
+    let bs : Bytes = savedCells t s in
+    let f : T (fitsUnder false t bs) = rest-fits n most t below apart sized s rest in
+    and-intro (fitsUnder false t bs && zerosUpTo bs n) (every (λ b. eqb b 0) (drop (cellPlace n) bs))
+    (and-intro (fitsUnder false t bs) (zerosUpTo bs n) f (cells-zeros n most t below s)) (cells-tail n most t below s)
+
+-- ---- the whole state: the bytes in front, and the cells
+
+pub saved-cells : (t : Tree) (s : State) → cells (saved t s) ≡ savedCells t s
+unfolding cells saved ahead
+saved-cells t s = refl
+
+pub saved-length : (t : Tree) → Below mostNodes t → (s : State) → length (saved t s) ≡ stateSize
+unfolding saved ahead
+saved-length t below s = omega (arith, cells-length t below s)
+
+-- a saved state says how many of its leaves run
+pub saved-count : (t : Tree) (s : State) → countAt (saved t s) ≡ runningLeaves t s
+unfolding countAt saved ahead number spelt
+saved-count t s = omega arith
+
+-- reading back a saved state gives the state that was saved
+pub load-saved : (t : Tree) → Distinct t → Below mostNodes t → Sized t → (s : State) → AtRest t s → load t (cells (saved t s)) ≡ s
+load-saved t apart below sized s rest = ap (λ (bs : Bytes). load t bs) (saved-cells t s) ∙ load-cells t apart below sized s rest
+
+-- the two parts of a state that fits
+pub fits-cells : (policy state : Bytes) → T (fits policy state) → T (cellsFit policy (cells state))
+unfolding fits
+fits-cells policy state h = and-left (cellsFit policy (cells state)) (countFits (tree policy) state) h
+
+fits-front : (policy state : Bytes) → T (fits policy state) → T (countFits (tree policy) state)
+unfolding fits
+fits-front policy state h = and-right (cellsFit policy (cells state)) (countFits (tree policy) state) h
+
 -- a state that fits is at rest
-pub fits-load : (policy bs : Bytes) → T (fits policy bs) → AtRest (tree policy) (load (tree policy) bs)
-fits-load policy bs h = fits-rest (tree policy) bs (fitting policy bs h .nodes-fit)
+pub fits-load : (policy state : Bytes) → T (fits policy state) → AtRest (tree policy) (load (tree policy) (cells state))
+fits-load policy state h = cells-rest policy (cells state) (fits-cells policy state h)
+
+-- a state that fits says how many of its leaves run
+pub fits-count : (policy state : Bytes) → T (fits policy state) → countAt state ≡ runningLeaves (tree policy) (load (tree policy) (cells state))
+unfolding countFits
+fits-count policy state h =
+    let n : ℕ = runningLeaves (tree policy) (load (tree policy) (cells state)) in
+    eqb→eq (countAt state) n (and-right (eqb (number state 0 countPlace) 0) (eqb (countAt state) n) (fits-front policy state h))
+
+-- the bytes in front of a state that fits are those that are saved with its count
+pub fits-ahead : (policy state : Bytes) → Small state → length state ≡ stateSize → T (fits policy state)
+    → ahead (runningLeaves (tree policy) (load (tree policy) (cells state))) ++ cells state ≡ state
+unfolding countFits ahead cells spell
+fits-ahead policy state small size h =
+    let n : ℕ = runningLeaves (tree policy) (load (tree policy) (cells state)) in
+    let z : number state 0 countPlace ≡ 0 =
+    eqb→eq (number state 0 countPlace) 0 (and-left (eqb (number state 0 countPlace) 0) (eqb (countAt state) n) (fits-front policy state h)) in
+    ap₂ {C = Bytes} (λ (m k : ℕ). spell countPlace m ++ (k ∷ cells state)) (sym z) (sym (fits-count policy state h))
+    ∙ ap (λ (bs : Bytes). spell countPlace (number state 0 countPlace) ++ bs) (unfold countAt in byte-first state countPlace (omega arith))
+    ∙ number-first state small 0 countPlace (omega arith)
+
+-- "Opening, each action and closing keep it true."
+count-saved : (t : Tree) → Distinct t → Below mostNodes t → Sized t → (s : State) → AtRest t s → T (countFits t (saved t s))
+unfolding countFits
+count-saved t apart below sized s rest =
+    let n : ℕ = runningLeaves t (load t (cells (saved t s))) in
+    let e : countAt (saved t s) ≡ n = saved-count t s ∙ ap (runningLeaves t) (sym (load-saved t apart below sized s rest)) in
+    and-intro (eqb (number (saved t s) 0 countPlace) 0) (eqb (countAt (saved t s)) n) (unfold saved ahead number spelt in tt)
+    (subst (λ (m : ℕ). T (eqb (countAt (saved t s)) m)) e (eqb-refl (countAt (saved t s))))
 
 -- a state at rest, saved, fits
 pub fits-saved : (policy : Bytes) → nodeCount policy ≤ mostNodes → Below (nodeCount policy) (tree policy) → Distinct (tree policy) → Sized (tree policy)
     → (s : State) → AtRest (tree policy) s → T (fits policy (saved (tree policy) s))
 unfolding fits
 fits-saved policy most below apart sized s rest =
-    let n : ℕ = nodeCount policy in
     let t : Tree = tree policy in
-    let bs : Bytes = saved t s in
-    let f : T (fitsUnder false t bs) = rest-fits n most t below apart sized s rest in
-    and-intro (fitsUnder false t bs && zerosUpTo bs n) (every (λ b. eqb b 0) (drop (cellPlace n) bs))
-    (and-intro (fitsUnder false t bs) (zerosUpTo bs n) f (saved-zeros n most t below s)) (saved-tail n most t below s)
+    and-intro (cellsFit policy (cells (saved t s))) (countFits t (saved t s))
+    (subst (λ (bs : Bytes). T (cellsFit policy bs)) (sym (saved-cells t s)) (cells-fit policy most below apart sized s rest))
+    (count-saved t apart (below-more (nodeCount policy) most t below) sized s rest)

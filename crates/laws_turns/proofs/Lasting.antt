@@ -24,13 +24,13 @@ use Rattle.spec_turns.specs.Status.{Status, dropped, isDecided}
 use Rattle.spec_turns.specs.State.{State, status}
 use Rattle.spec_turns.specs.Process.{outcome}
 use Rattle.spec_turns.specs.Turn.{Request, opening, offer, close, call}
-use Rattle.spec_turns.specs.Saved.{stateSize, load, saved, fits}
+use Rattle.spec_turns.specs.Saved.{stateSize, cells, load, runningLeaves, saved, countAt, fits}
 use Rattle.spec_turns.specs.Entries.{Reply, answers, refuses, carriedOut, Result, entry}
 use Rattle.spec_turns.proofs.Rest.{Over}
 use Rattle.spec_turns.specs.Rest.{AtRest}
-use Rattle.laws_turns.proofs.Cells.{below-more, lawful-apart, saved-length, load-saved}
+use Rattle.laws_turns.proofs.Cells.{below-more, lawful-apart}
 use Rattle.laws_turns.specs.Cells.{Below, Sized}
-use Rattle.laws_turns.proofs.Fits.{fits-load, fits-saved}
+use Rattle.laws_turns.proofs.Fits.{saved-length, saved-count, load-saved, fits-load, fits-saved}
 use Rattle.spec_turns.proofs.States.{rest-decided}
 use Rattle.spec_turns.proofs.Walk.{call-fine, close-over, opening-fine}
 use Rattle.laws_turns.proofs.Answered.{Answered, answered, Reads, state-fits, file-passed}
@@ -77,7 +77,7 @@ module _ (file : Bytes) (small : Small file) (ok : Passed file) where
   saved-fits s h =
       fits-saved file (counts-fit file (ok .kept3) .few-nodes) (numbers-below-nodes file ok) (lawful-apart (tree file) (lawful file ok)) sized s h
 
-  pub reads-back : (s : State) → AtRest (tree file) s → load (tree file) (saved (tree file) s) ≡ s
+  pub reads-back : (s : State) → AtRest (tree file) s → load (tree file) (cells (saved (tree file) s)) ≡ s
   reads-back s h = load-saved (tree file) (lawful-apart (tree file) (lawful file ok)) (in-cells file ok) sized s h
 
   pub saved-size : (s : State) → length (saved (tree file) s) ≡ stateSize
@@ -88,16 +88,16 @@ module _ (file : Bytes) (small : Small file) (ok : Passed file) where
 module _ (policy : Bytes) (state room : Bytes) where
   -- the state that a call ends in
   ends : Request → State
-  ends q = outcome (call (tree policy) q (load (tree policy) state)) .state
+  ends q = outcome (call (tree policy) q (load (tree policy) (cells state))) .state
 
   rests : (q : Request) → Answered policy q state room → AtRest (tree policy) (ends q)
   unfolding ends Reads
-  rests opening h = opening-fine (tree policy) (lawful policy (file-passed policy opening state room h)) (load (tree policy) state) .outs
+  rests opening h = opening-fine (tree policy) (lawful policy (file-passed policy opening state room h)) (load (tree policy) (cells state)) .outs
   rests (offer a) h =
-      call-fine (tree policy) (lawful policy (file-passed policy (offer a) state room h)) (offer a) (load (tree policy) state)
+      call-fine (tree policy) (lawful policy (file-passed policy (offer a) state room h)) (offer a) (load (tree policy) (cells state))
       (fits-load policy state (state-fits policy (offer a) state room tt h)) .outs
   rests close h =
-      call-fine (tree policy) (lawful policy (file-passed policy close state room h)) close (load (tree policy) state)
+      call-fine (tree policy) (lawful policy (file-passed policy close state room h)) close (load (tree policy) (cells state))
       (fits-load policy state (state-fits policy close state room tt h)) .outs
 
   carried-state : (q : Request) → Answered policy q state room → entry policy q state room .state ≡ saved (tree policy) (ends q)
@@ -113,7 +113,8 @@ module _ (policy : Bytes) (state room : Bytes) where
       record {
         size = subst (λ (x : Bytes). length x ≡ stateSize) z (saved-size policy small ok (ends q));
         fits-again = subst (λ (x : Bytes). T (fits policy x)) z (saved-fits policy small ok (ends q) (rests q h));
-        read-back = subst (λ (x : Bytes). load (tree policy) x ≡ ends q) z (reads-back policy small ok (ends q) (rests q h));
+        counted = subst (λ (x : Bytes). countAt x ≡ runningLeaves (tree policy) (ends q)) z (saved-count (tree policy) (ends q));
+        read-back = subst (λ (x : Bytes). load (tree policy) (cells x) ≡ ends q) z (reads-back policy small ok (ends q) (rests q h));
       }
 
   -- Closing leaves the root decided.
@@ -121,7 +122,7 @@ module _ (policy : Bytes) (state room : Bytes) where
   unfolding carriedOut Reads ends
   closing-decides n s e =
       let h : Answered policy close state room = answered policy close state room n s e in
-      let o : Over (tree policy) (ends close) = close-over (tree policy) (lawful policy (file-passed policy close state room h)) (load (tree policy) state)
+      let o : Over (tree policy) (ends close) = close-over (tree policy) (lawful policy (file-passed policy close state room h)) (load (tree policy) (cells state))
       (fits-load policy state (state-fits policy close state room tt h)) in
       subst (λ (x : Status). T (isDecided x)) (root-of _ n (status (ends close)) s (sym (ap (λ (x : Result). x .reply) (h .given)) ∙ e)) (rest-decided (o .rest) (o .decided))
     where

@@ -1,4 +1,5 @@
 pub mod Cells
+pub mod Leaves
 pub mod Fits
 pub mod Fuel
 pub mod Count

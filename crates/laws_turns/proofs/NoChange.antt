@@ -3,6 +3,7 @@
 use Prim.Native.Nat.{ℕ, zero, _<_}
 use mathlib.Core.Path.{_≡_, refl, sym, ap, _∙_, subst}
 use mathlib.Core.Bool.{Bool, false, _&&_}
+use mathlib.Core.List.{_++_}
 use lib.Dec.{T}
 use lib.ListN.{length, drop, replicate, length-drop}
 use Rattle.actions.specs.Sets.{Action, has}
@@ -10,7 +11,7 @@ use Rattle.actions.proofs.Tests.{no-of, and-right, or-left}
 use Rattle.spec_policy.specs.Bytes.{Bytes, put, Small}
 use Rattle.spec_policy.specs.Records.{nodeCount}
 use Rattle.spec_policy.specs.Tree.{Tree, leaf, trivial, unsatisfiable, parallel, sequential, node, regulated, tree}
-use Rattle.spec_policy.proofs.ByteLaws.{put-none, zeros-are}
+use Rattle.spec_policy.proofs.ByteLaws.{put-none, small-drop, zeros-are}
 use Rattle.spec_check.specs.Passed.{Passed}
 use Rattle.spec_check.proofs.Numbers.{all-held, root-number}
 use Rattle.spec_check.proofs.Rows.{counts-fit}
@@ -20,12 +21,12 @@ use Rattle.spec_turns.specs.State.{State, status}
 use Rattle.spec_turns.specs.Process.{accepts, Process, does, trace, items, outcome}
 use Rattle.spec_turns.specs.Turn.{before, closing, quiet, isAsked, ifAsked, phase, Request, offer, close, call}
 use Rattle.spec_turns.specs.Events.{eventOf, events, eventBytes}
-use Rattle.spec_turns.specs.Saved.{stateSize, cellPlace, statusAt, load, saved, fits}
+use Rattle.spec_turns.specs.Saved.{aheadSize, stateSize, cells, cellPlace, statusAt, load, savedCells, runningLeaves, ahead, saved, fits}
 use Rattle.spec_turns.specs.Entries.{answers, carried, carriedOut, entry}
 use Rattle.spec_turns.proofs.States.{decided-stops}
-use Rattle.laws_turns.proofs.Cells.{lawful-apart, kept-same, cells-same, saved-kept, saved-length}
+use Rattle.laws_turns.proofs.Cells.{lawful-apart, kept-same, cells-same, cells-size, cells-kept, cells-length}
 use Rattle.laws_turns.specs.Cells.{cellAt}
-use Rattle.laws_turns.proofs.Fits.{Fitting, fitting, fits-kept, saved-tail, status-at}
+use Rattle.laws_turns.proofs.Fits.{Fitting, fitting, fits-kept, cells-tail, status-at, fits-cells, fits-ahead}
 use Rattle.laws_turns.proofs.Lasting.{in-cells}
 use Rattle.laws_turns.proofs.Answered.{Answered, answered, Reads, room-kept, state-fits, file-passed}
 use Rattle.laws_turns.specs.Calls.{rootStatus, noChange, acceptedUnchanged}
@@ -39,27 +40,34 @@ module _ (file : Bytes) (ok : Passed file) (state : Bytes) (size : length state 
   abbrev n : ℕ
   n = nodeCount file
 
-  abbrev again : Bytes
-  again = saved t (load t state)
+  abbrev records : Bytes
+  records = cells state
 
-  same-cells : (i : ℕ) → i < n → cellAt again i ≡ cellAt state i
+  abbrev again : Bytes
+  again = savedCells t (load t records)
+
+  parts : Fitting file records
+  parts = fitting file records (fits-cells file state fit)
+
+  same-cells : (i : ℕ) → i < n → cellAt again i ≡ cellAt records i
+  unfolding cells
   same-cells i h =
-      let f : Fitting file state = fitting file state fit in
-      kept-same t (load t state) again state (saved-kept t (lawful-apart t (lawful file ok)) (in-cells file ok) (load t state))
-      (fits-kept state size small false t (λ k u. (in-cells file ok k u, f .zeros k (numbers-below-nodes file ok k u))) (f .nodes-fit))
+      kept-same t (load t records) again records (cells-kept t (lawful-apart t (lawful file ok)) (in-cells file ok) (load t records))
+      (fits-kept records (cells-size state size) (small-drop aheadSize state small) false t (λ k u. (in-cells file ok k u, parts .zeros k (numbers-below-nodes file ok k u))) (parts .nodes-fit))
       i (all-held file (ok .kept5) i h)
 
   -- "node records from n on .. are zero", in both
-  same-rest : drop (cellPlace n) again ≡ drop (cellPlace n) state
+  same-rest : drop (cellPlace n) again ≡ drop (cellPlace n) records
   same-rest =
-      let e : length (drop (cellPlace n) again) ≡ length (drop (cellPlace n) state) = simp (length-drop, saved-length t (in-cells file ok) (load t state), size) in
-      zeros-are (drop (cellPlace n) again) (saved-tail n (counts-fit file (ok .kept3) .few-nodes) t (numbers-below-nodes file ok) (load t state))
+      let e : length (drop (cellPlace n) again) ≡ length (drop (cellPlace n) records) = simp (length-drop, cells-length t (in-cells file ok) (load t records), cells-size state size) in
+      zeros-are (drop (cellPlace n) again) (cells-tail n (counts-fit file (ok .kept3) .few-nodes) t (numbers-below-nodes file ok) (load t records))
       ∙ ap (λ (k : ℕ). replicate k zero) e
-      ∙ sym (zeros-are (drop (cellPlace n) state) (fitting file state fit .rest-zero))
+      ∙ sym (zeros-are (drop (cellPlace n) records) (parts .rest-zero))
 
-  -- Each number below n is a node's, so that every byte of the state is told by what was read of it.
-  pub saved-load : saved (tree file) (load (tree file) state) ≡ state
-  saved-load = cells-same again state n same-cells same-rest
+  -- Each number below n is a node's, so that every byte of the cells is told by what was read of it; and the bytes in front by the count.
+  pub saved-load : saved (tree file) (load (tree file) (cells state)) ≡ state
+  unfolding saved
+  saved-load = ap (λ (bs : Bytes). ahead (runningLeaves t (load t records)) ++ bs) (cells-same again records n same-cells same-rest) ∙ fits-ahead file state small size fit
 
 -- ---- a root that is not asked
 
@@ -83,10 +91,10 @@ module _ (policy state room : Bytes) (small : Small state) where
   p = tree policy
 
   abbrev found : State
-  found = load p state
+  found = load p (cells state)
 
   root-read : status found ≡ rootStatus state
-  root-read = sym (status-at p state) ∙ ap (λ (i : ℕ). statusOf (statusAt state i)) (root-number policy)
+  root-read = sym (status-at p (cells state)) ∙ ap (λ (i : ℕ). statusOf (statusAt (cells state) i)) (root-number policy)
 
   not-running : T (isDecided (rootStatus state)) → isRunning (status found) ≡ false
   not-running h = decided-stops (status found) (subst (λ (x : Status). T (isDecided x)) (sym root-read) h)

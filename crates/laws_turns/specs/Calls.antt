@@ -13,16 +13,18 @@ use Rattle.spec_turns.specs.Status.{Status, statusOf}
 use Rattle.spec_turns.specs.Process.{outcome}
 use Rattle.spec_turns.specs.Turn.{Request, call}
 use Rattle.spec_turns.specs.Events.{accepted, eventBytes}
-use Rattle.spec_turns.specs.Saved.{stateSize, statusAt, load, fits}
+use Rattle.spec_turns.specs.Saved.{stateSize, cells, statusAt, load, runningLeaves, countAt, fits}
 use Rattle.spec_turns.specs.Entries.{answers, eventRoom, Result, entry}
 
--- What an answered call leaves in the state buffer: "State: 248 bytes", a state that fits again by "It fits when:", so that the guard never refuses
--- its own state, and one that is read back as the state in which the turn rules end. `answered-leaves`.
+-- What an answered call leaves in the state buffer: "the state is 256 bytes" (request 04), a state that fits again by "It fits when:", so that the
+-- guard never refuses its own state, and one that is read back as the state in which the turn rules end. `answered-leaves`.
 module _ (policy : Bytes) (state room : Bytes) where
   pub record Leaves (q : Request) : Type 0 where
     pub size : length (entry policy q state room .state) ≡ stateSize
     pub fits-again : T (fits policy (entry policy q state room .state))
-    pub read-back : load (tree policy) (entry policy q state room .state) ≡ outcome (call (tree policy) q (load (tree policy) state)) .state
+    pub read-back : load (tree policy) (cells (entry policy q state room .state)) ≡ outcome (call (tree policy) q (load (tree policy) (cells state))) .state
+    -- "Opening, each action and closing keep it true": the count
+    pub counted : countAt (entry policy q state room .state) ≡ runningLeaves (tree policy) (outcome (call (tree policy) q (load (tree policy) (cells state))) .state)
 
 -- What a call that answers n events leaves in the event buffer. `answered-emits`.
 module _ (policy : Bytes) (q : Request) (state room : Bytes) where
@@ -37,7 +39,7 @@ module _ (policy : Bytes) (q : Request) (state room : Bytes) where
 
 -- the root's status, as the bytes of a state have it: node 0's
 abbrev pub rootStatus : Bytes → Status
-rootStatus state = statusOf (statusAt state 0)
+rootStatus state = statusOf (statusAt (cells state) 0)
 
 -- What a call gives that makes no change: so many events, the root's status, and every byte of the state as it was. With no event and the event bytes
 -- as they were it is "Closing a decided root emits nothing and answers its status." `decided-closes`.

@@ -1,4 +1,4 @@
--- What is asked of a tree and of a state so that 248 bytes can hold it: "State: 248 bytes, 8 per node number". Every passed policy has such a tree, and
+-- What is asked of a tree and of a state so that 248 bytes of cells can hold it: "8 per node number". Every passed policy has such a tree, and
 -- every state at rest is such a state (proofs/Cells, proofs/Lasting). That no number is a node's twice is `Distinct` of spec_check.
 use Prim.Native.Nat.{ℕ, _^_, _<_}
 use mathlib.Core.Bool.{false}

@@ -1,3 +1,4 @@
 pub mod Cells
 pub mod Counts
+pub mod Leaves
 pub mod Calls

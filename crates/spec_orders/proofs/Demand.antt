@@ -6,7 +6,7 @@ use Rattle.spec_policy.specs.Tree.{tree}
 use Rattle.spec_turns.specs.State.{status}
 use Rattle.spec_turns.specs.Process.{Out}
 use Rattle.spec_turns.specs.Turn.{Request, call}
-use Rattle.spec_turns.specs.Saved.{load, saved}
+use Rattle.spec_turns.specs.Saved.{cells, load, saved}
 use Rattle.spec_turns.specs.Entries.{answers, carriedOut}
 use Rattle.spec_turns.proofs.Safe.{Safe}
 use Rattle.spec_orders.specs.Demand.{premise, AnyOrder}
@@ -14,11 +14,11 @@ use Rattle.spec_orders.proofs.Seen.{same-events}
 use Rattle.spec_orders.proofs.OrderFree.{order-free}
 use Rattle.spec_orders.proofs.Lines.{none-lost}
 
-pub any-order : (policy : Bytes) (q : Request) (state room : Bytes) → Safe (call (tree policy) q (load (tree policy) state)) → T (premise (tree policy))
+pub any-order : (policy : Bytes) (q : Request) (state room : Bytes) → Safe (call (tree policy) q (load (tree policy) (cells state))) → T (premise (tree policy))
     → AnyOrder policy q state room
 unfolding carriedOut
 any-order policy q state room safe h =
-    let free = order-free (tree policy) (call (tree policy) q (load (tree policy) state)) safe in
+    let free = order-free (tree policy) (call (tree policy) q (load (tree policy) (cells state))) safe in
     record {
       agree = free;
       none-lost = none-lost (tree policy) h;

@@ -10,7 +10,7 @@ use Rattle.spec_turns.specs.State.{State, status}
 use Rattle.spec_turns.specs.Process.{Item, Out, Process, stop, items, trace}
 use Rattle.spec_turns.specs.Turn.{Phase, phase, Request, call}
 use Rattle.spec_turns.specs.Events.{events}
-use Rattle.spec_turns.specs.Saved.{load, saved}
+use Rattle.spec_turns.specs.Saved.{cells, load, saved}
 use Rattle.spec_turns.specs.Entries.{answers, carriedOut}
 use Rattle.spec_orders.specs.Orders.{Order, OrderFree}
 
@@ -44,9 +44,9 @@ NoneLost (node sequential j i l r) = ((ph : Phase) (s : State) → OneOrder (pha
 
 -- What is said of a call on a policy and a saved state: its orders agree, and give what the entry point's definition gives.
 pub record AnyOrder (policy : Bytes) (q : Request) (state room : Bytes) : Type 0 where
-  pub agree : OrderFree (tree policy) (call (tree policy) q (load (tree policy) state))
+  pub agree : OrderFree (tree policy) (call (tree policy) q (load (tree policy) (cells state)))
   pub none-lost : NoneLost (tree policy)
-  pub same-reply : {xs : List Item} {n : ℕ} {x : Out} → Order (call (tree policy) q (load (tree policy) state)) xs n (stop x)
+  pub same-reply : {xs : List Item} {n : ℕ} {x : Out} → Order (call (tree policy) q (load (tree policy) (cells state))) xs n (stop x)
       → answers (length (events xs)) (status (x .state)) ≡ carriedOut policy q state room .reply
-  pub same-state : {xs : List Item} {n : ℕ} {x : Out} → Order (call (tree policy) q (load (tree policy) state)) xs n (stop x)
+  pub same-state : {xs : List Item} {n : ℕ} {x : Out} → Order (call (tree policy) q (load (tree policy) (cells state))) xs n (stop x)
       → saved (tree policy) (x .state) ≡ carriedOut policy q state room .state

@@ -16,7 +16,7 @@ use Rattle.spec_turns.specs.State.{State, leftOf, rightOf, settled}
 use Rattle.spec_turns.specs.Process.{Item, ran, lets, sups, accepts, suppresses, Out, Process, stop, does, then, outcome, trace, items}
 use Rattle.spec_turns.specs.Turn.{closing, Behaviour, quiet, unlessDecided, given, feed, sequentialWork, phase, close, call}
 use Rattle.spec_turns.specs.Events.{Event, inserted, events}
-use Rattle.spec_turns.specs.Saved.{stateSize, load}
+use Rattle.spec_turns.specs.Saved.{stateSize, cells, load}
 use Rattle.spec_turns.specs.Entries.{eventRoom, opens}
 use Rattle.spec_orders.specs.Orders.{Order}
 use Rattle.spec_orders.specs.Demand.{premise, OneOrder}
@@ -65,7 +65,7 @@ policy = fileOf (pairOf 5 1 4 ∷ pairOf 4 2 3 ∷ «V» ∷ V′ ∷ F ∷ [])
 -- as opening leaves it
 unfoldable pub afterOpening : State
 unfolding policy
-afterOpening = load (tree policy) (opens policy (replicate stateSize 0) (replicate eventRoom 0) .state)
+afterOpening = load (tree policy) (cells (opens policy (replicate stateSize 0) (replicate eventRoom 0) .state))
 
 -- what a leaf of the left part, number i, does at closing
 unfoldable pub closingItems : ℕ → Action → List Item

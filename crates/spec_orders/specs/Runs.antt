@@ -10,13 +10,13 @@ use Rattle.spec_turns.specs.State.{status}
 use Rattle.spec_turns.specs.Process.{Item, Out, Process, stop, trace, items}
 use Rattle.spec_turns.specs.Turn.{Request, call}
 use Rattle.spec_turns.specs.Events.{events, stepsRun}
-use Rattle.spec_turns.specs.Saved.{load, saved}
+use Rattle.spec_turns.specs.Saved.{cells, load, saved}
 use Rattle.spec_turns.specs.Entries.{Reply, answers, refuses, entry}
 use Rattle.spec_orders.specs.Orders.{Order, Stuck, Told, only, ofLeaf, isVerdict, insertsOf}
 
 -- what a request asks of a policy with these bytes for its state
 unfoldable pub asked : Bytes → Request → Bytes → Process
-asked policy q state = call (tree policy) q (load (tree policy) state)
+asked policy q state = call (tree policy) q (load (tree policy) (cells state))
 
 -- From a state, these requests were made one after another. A refused one gives what demand 2 gives; an answered one runs in any order,
 -- and the next call finds the state that this order saved.

@@ -10,7 +10,7 @@ use Rattle.spec_policy.specs.Parts.{alone, pair, pairOf, fileOf, top, bottom, L
 use Rattle.spec_policy.specs.Tree.{Tree, tree}
 use Rattle.spec_turns.specs.Process.{Item, accepts, suppresses, trace, items}
 use Rattle.spec_turns.specs.Turn.{Request, offer, close, call}
-use Rattle.spec_turns.specs.Saved.{stateSize, load}
+use Rattle.spec_turns.specs.Saved.{stateSize, cells, load}
 use Rattle.spec_turns.specs.Entries.{eventRoom, opens}
 use Rattle.spec_orders.specs.Orders.{only, isVerdict, insertsOf}
 use Rattle.spec_orders.specs.Demand.{premise}
@@ -51,7 +51,7 @@ unfoldable pub doneBy : Bytes → Request → List Item
 doneBy policy q =
     let t : Tree = tree policy in
     let s : Bytes = opens policy (replicate stateSize 0) (replicate eventRoom 0) .state in
-    items (trace (call t q (load t s)))
+    items (trace (call t q (load t (cells s))))
 
 pub record Inserts : Type 0 where
   pub policy : Bytes

@@ -6,7 +6,7 @@ use Rattle.spec_policy.specs.Opened.{opened as files}
 use Rattle.spec_check.specs.Opened.{opened as rules}
 use Rattle.spec_turns.specs.Opened.{opened}
 use Rattle.spec_turns.specs.Worked.{cases, AllTold}
-use Rattle.spec_turns.specs.Readings.{readings, StepsStop, refusedCalls, AllRefused}
+use Rattle.spec_turns.specs.Readings.{readings, StepsStop, refusedCalls, AllRefused, stateAfter, leaving, AllLeft}
 
 pub all-told : AllTold cases
 unfolding AllTold cases opened rules files sets
@@ -23,3 +23,7 @@ steps-stop = refl
 pub all-refused : AllRefused
 unfolding AllRefused refusedCalls opened rules files sets
 all-refused = refl
+
+pub all-left : AllLeft
+unfolding AllLeft stateAfter leaving opened rules files sets
+all-left = refl

@@ -14,7 +14,7 @@ use Rattle.spec_turns.specs.State.{status}
 use Rattle.spec_turns.specs.Process.{Process, outcome, trace, items}
 use Rattle.spec_turns.specs.Turn.{Request, opening, offer, close, call}
 use Rattle.spec_turns.specs.Events.{events, eventBytes}
-use Rattle.spec_turns.specs.Saved.{stateSize, statusAt, load, saved, fits}
+use Rattle.spec_turns.specs.Saved.{stateSize, cells, statusAt, load, saved, fits}
 
 -- the least room for events
 abbrev pub eventRoom : ℕ
@@ -43,9 +43,9 @@ carried t p room =
 
 unfoldable pub carriedOut : Bytes → Request → Bytes → Bytes → Result
 unfolding carried
-carriedOut policy q state room = let t = tree policy in carried t (call t q (load t state)) room
+carriedOut policy q state room = let t = tree policy in carried t (call t q (load t (cells state))) room
 
--- 11: "state buffer is not 248 bytes, or event buffer is under 512"
+-- 11: "state buffer is not 248 bytes, or event buffer is under 512", and by request 04: "Refusal 11 now means 256 bytes"
 unfoldable pub broken11 : Bytes → Bytes → Bool
 broken11 state room = not (eqb (length state) stateSize) || ltb (length room) eventRoom
 
@@ -59,7 +59,7 @@ broken13 a = not (isAction a)
 
 -- 14: "the root has halted"
 unfoldable pub broken14 : Bytes → Bool
-broken14 state = isHalted (statusOf (statusAt state 0))
+broken14 state = isHalted (statusOf (statusAt (cells state) 0))
 
 -- A refusal's number, and whether it applies.
 pub record Refusal : Type 0 where

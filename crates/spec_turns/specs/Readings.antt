@@ -1,18 +1,19 @@
 -- The points of document 01 at which readers differ, and its believable mistakes, on small policies: one list, one statement; beside
--- it a count of steps, which no answer shows, and the refusals of the calls.
+-- it a count of steps, which no answer shows, the refusals of the calls, and the states that calls leave.
 use Prim.Native.Nat.{ℕ}
 use mathlib.Core.Path.{_≡_}
 use mathlib.Core.List.{List, [], _∷_, _++_, map}
-use lib.ListN.{replicate}
+use lib.ListN.{take, replicate}
 use Rattle.spec_policy.specs.Bytes.{Bytes}
 use Rattle.spec_policy.specs.Tree.{Tree, tree}
-use Rattle.spec_policy.specs.Parts.{Part, next, ok, sup as sups, ins as inserts, spend, end, halt, leafOf, top, bottom, alone, pair, L, «V», V′, W, F, built}
+use Rattle.spec_policy.specs.Parts.{Part, next, ok, sup as sups, ins as inserts, spend, end, halt, joined, leafOf, top, bottom, alone, pair, L, «V», V′, W, F, built}
 use Rattle.spec_check.specs.Check.{passes}
 use Rattle.spec_turns.specs.Status.{running, ended, endedLeft, endedRight, halted}
 use Rattle.spec_turns.specs.Process.{items, trace, outcome}
 use Rattle.spec_turns.specs.Turn.{Request, opening, offer, close, call, fresh}
 use Rattle.spec_turns.specs.Events.{stepsRun}
-use Rattle.spec_turns.specs.Entries.{refuses, Result, entry}
+use Rattle.spec_turns.specs.Saved.{stateSize}
+use Rattle.spec_turns.specs.Entries.{refuses, eventRoom, Result, entry}
 use Rattle.spec_turns.specs.Worked.{Heard, Case, says, acc, sup, ins}
 
 -- inserts 3 and then 6 at closing
@@ -146,43 +147,92 @@ givenBy x = entry (x .policy) (x .request) (x .state) (x .room)
 unfoldable pub unfit : Bytes → Bytes → Asking
 unfit policy state = record { policy = policy; request = close; state = state; room = replicate 512 7; number = 12 }
 
--- the state of a pair: statuses of its node and of its two sides, and zeros
-unfoldable pub threeRecords : ℕ → ℕ → ℕ → Bytes
-threeRecords n l r = n ∷ replicate 7 0 ++ (l ∷ replicate 7 0 ++ (r ∷ replicate 231 0))
+-- a state's bytes: the eight in front with the count of running leaves, the cells given, and zeros
+unfoldable pub stateOf : ℕ → List Bytes → Bytes
+stateOf count cs = take stateSize (replicate 7 0 ++ (count ∷ (joined cs ++ replicate stateSize 0)))
+
+-- a node's cell with this status, and zeros
+unfoldable pub only : ℕ → Bytes
+only s = s ∷ replicate 7 0
+
+-- the state of a pair: the count, statuses of its node and of its two sides, and zeros
+unfoldable pub threeRecords : ℕ → ℕ → ℕ → ℕ → Bytes
+unfolding stateOf only
+threeRecords count n l r = stateOf count (only n ∷ only l ∷ only r ∷ [])
 
 unfoldable pub refusedCalls : List Asking
-unfolding built unfit threeRecords
+unfolding built unfit stateOf only threeRecords
 refusedCalls =
     record { policy = []; request = opening; state = []; room = []; number = 1 }
-    -- 11 before 12, 13 and 14
-    ∷ record { policy = alone bottom; request = offer 64; state = replicate 247 9; room = replicate 512 7; number = 11 }
-    ∷ record { policy = alone bottom; request = close; state = 5 ∷ replicate 248 0; room = replicate 512 7; number = 11 }
-    ∷ record { policy = alone bottom; request = opening; state = replicate 248 0; room = replicate 511 7; number = 11 }
+    -- 11 before 12, 13 and 14: "256 bytes"
+    ∷ record { policy = alone bottom; request = offer 64; state = replicate 255 9; room = replicate 512 7; number = 11 }
+    ∷ record { policy = alone bottom; request = close; state = replicate 257 0; room = replicate 512 7; number = 11 }
+    ∷ record { policy = alone bottom; request = close; state = replicate 248 0; room = replicate 512 7; number = 11 }
+    ∷ record { policy = alone bottom; request = opening; state = replicate 256 0; room = replicate 511 7; number = 11 }
     -- 12 before 13: no status 0
-    ∷ record { policy = alone bottom; request = offer 64; state = replicate 248 0; room = replicate 512 7; number = 12 }
+    ∷ record { policy = alone bottom; request = offer 64; state = replicate 256 0; room = replicate 512 7; number = 12 }
     -- a leaf at a step that is no next; a counter above its start; two bytes that are not zero; a record too many; the root dropped
-    ∷ unfit (alone L) (1 ∷ 1 ∷ replicate 246 0)
-    ∷ unfit (alone L) (1 ∷ 0 ∷ 0 ∷ 0 ∷ 0 ∷ 0 ∷ 0 ∷ 4 ∷ replicate 240 0)
-    ∷ unfit (alone L) (1 ∷ 0 ∷ 0 ∷ 1 ∷ replicate 244 0)
-    ∷ unfit (alone bottom) (5 ∷ 0 ∷ 0 ∷ 0 ∷ 0 ∷ 0 ∷ 0 ∷ 0 ∷ 6 ∷ replicate 239 0)
-    ∷ unfit (alone top) (6 ∷ replicate 247 0)
+    ∷ unfit (alone L) (stateOf 1 ((1 ∷ 1 ∷ replicate 6 0) ∷ []))
+    ∷ unfit (alone L) (stateOf 1 ((1 ∷ 0 ∷ 0 ∷ 0 ∷ 0 ∷ 0 ∷ 0 ∷ 4 ∷ []) ∷ []))
+    ∷ unfit (alone L) (stateOf 1 ((1 ∷ 0 ∷ 0 ∷ 1 ∷ replicate 4 0) ∷ []))
+    ∷ unfit (alone bottom) (stateOf 0 (only 5 ∷ only 6 ∷ []))
+    ∷ unfit (alone top) (stateOf 0 (only 6 ∷ []))
+    -- Request 04: "refusal 12 covers a wrong count": too few, too many, a trivial node counted; a byte before the count that is not zero
+    ∷ unfit (alone L) (stateOf 0 (only 1 ∷ []))
+    ∷ unfit (alone L) (stateOf 2 (only 1 ∷ []))
+    ∷ unfit (alone top) (stateOf 1 (only 2 ∷ []))
+    ∷ unfit (pair 4 L L) (threeRecords 1 1 1 1)
+    ∷ unfit (pair 4 L L) (threeRecords 3 1 1 1)
+    ∷ unfit (alone top) (1 ∷ replicate 7 0 ++ (2 ∷ replicate 247 0))
+    ∷ unfit (alone top) (replicate 6 0 ++ (1 ∷ 0 ∷ 2 ∷ replicate 247 0))
     -- a running "and" with a halted side, with both ended; a running "or" with an ended side, with both halted
-    ∷ unfit (pair 4 bottom top) (threeRecords 1 5 2)
-    ∷ unfit (pair 4 top top) (threeRecords 1 2 2)
-    ∷ unfit (pair 6 bottom top) (threeRecords 1 5 2)
-    ∷ unfit (pair 6 bottom bottom) (threeRecords 1 5 5)
+    ∷ unfit (pair 4 bottom top) (threeRecords 0 1 5 2)
+    ∷ unfit (pair 4 top top) (threeRecords 0 1 2 2)
+    ∷ unfit (pair 6 bottom top) (threeRecords 0 1 5 2)
+    ∷ unfit (pair 6 bottom bottom) (threeRecords 0 1 5 5)
     -- an "and" is not ended by one side, an "or" not by both; a side is dropped under a decided node, and under no other
-    ∷ unfit (pair 4 top top) (threeRecords 3 6 6)
-    ∷ unfit (pair 6 top top) (threeRecords 2 6 6)
-    ∷ unfit (pair 4 top top) (threeRecords 2 2 2)
-    ∷ unfit (pair 4 top W) (threeRecords 1 2 6)
+    ∷ unfit (pair 4 top top) (threeRecords 0 3 6 6)
+    ∷ unfit (pair 6 top top) (threeRecords 0 2 6 6)
+    ∷ unfit (pair 4 top top) (threeRecords 0 2 2 2)
+    ∷ unfit (pair 4 top W) (threeRecords 0 1 2 6)
     -- 13 before 14
-    ∷ record { policy = alone bottom; request = offer 64; state = 5 ∷ replicate 247 0; room = replicate 512 7; number = 13 }
-    ∷ record { policy = alone bottom; request = offer 63; state = 5 ∷ replicate 247 0; room = replicate 512 7; number = 14 }
+    ∷ record { policy = alone bottom; request = offer 64; state = stateOf 0 (only 5 ∷ []); room = replicate 512 7; number = 13 }
+    ∷ record { policy = alone bottom; request = offer 63; state = stateOf 0 (only 5 ∷ []); room = replicate 512 7; number = 14 }
     -- an ended root accepts 0 to 63
-    ∷ record { policy = alone top; request = offer 64; state = 2 ∷ replicate 247 0; room = replicate 512 7; number = 13 }
+    ∷ record { policy = alone top; request = offer 64; state = stateOf 0 (only 2 ∷ []); room = replicate 512 7; number = 13 }
     ∷ []
 
 unfoldable pub AllRefused : Type 0
 unfolding refusedBy givenBy
 AllRefused = map givenBy refusedCalls ≡ map refusedBy refusedCalls
+
+-- ---- request 04: the state's bytes after opening, after an action and after closing
+
+-- the state that calls leave, each from the last one's
+unfoldable pub stateAfter : Bytes → Bytes → List Request → Bytes
+stateAfter policy state [] = state
+stateAfter policy state (q ∷ qs) = stateAfter policy (entry policy q state (replicate eventRoom 0) .state) qs
+
+pub record Leaving : Type 0 where
+  pub policy : Bytes
+  pub requests : List Request
+  pub state : Bytes
+
+-- "Opening, each action and closing keep it true."
+unfoldable pub leaving : List Leaving
+unfolding built stateOf only threeRecords
+leaving =
+    record { policy = alone L; requests = opening ∷ []; state = stateOf 1 ((1 ∷ 0 ∷ 0 ∷ 0 ∷ 0 ∷ 0 ∷ 0 ∷ 3 ∷ []) ∷ []) }
+    ∷ record { policy = alone L; requests = opening ∷ offer 2 ∷ []; state = stateOf 1 ((1 ∷ 0 ∷ 0 ∷ 0 ∷ 0 ∷ 0 ∷ 0 ∷ 2 ∷ []) ∷ []) }
+    ∷ record { policy = alone L; requests = opening ∷ close ∷ []; state = stateOf 0 (only 2 ∷ []) }
+    ∷ record { policy = pair 4 «V» V′; requests = opening ∷ []; state = threeRecords 2 1 1 1 }
+    ∷ record { policy = pair 4 «V» V′; requests = opening ∷ close ∷ []; state = threeRecords 0 2 6 6 }
+    ∷ record { policy = pair 4 E₃ V′; requests = opening ∷ offer 3 ∷ []; state = threeRecords 1 1 2 1 }
+    -- trivial and unsatisfiable nodes are no leaves
+    ∷ record { policy = pair 4 top W; requests = opening ∷ []; state = threeRecords 1 1 2 1 }
+    ∷ record { policy = pair 6 L bottom; requests = opening ∷ offer 2 ∷ offer 2 ∷ offer 2 ∷ offer 2 ∷ []; state = threeRecords 0 5 6 6 }
+    ∷ []
+
+unfoldable pub AllLeft : Type 0
+unfolding E₃
+AllLeft = map (λ x. stateAfter (x .policy) (replicate stateSize 255) (x .requests)) leaving ≡ map (λ x. x .state) leaving

@@ -1,4 +1,4 @@
--- A state at rest, as a policy can be in between calls: what "It fits when:" says of 248 bytes, said of the state that they hold. Bytes that fit are loaded
+-- A state at rest, as a policy can be in between calls: what "It fits when:" says of bytes, said of the state that they hold. Bytes that fit are loaded
 -- as such a state, and every answered call ends in one (laws_turns).
 use Prim.Native.Nat.{ℕ, _≤_}
 use mathlib.Core.Path.{_≡_}

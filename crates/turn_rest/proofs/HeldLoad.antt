@@ -12,7 +12,7 @@ use Rattle.spec_policy.specs.Bytes.{Bytes, number, Small}
 use Rattle.spec_policy.specs.Records.{mostNodes, nodeCount}
 use Rattle.spec_policy.specs.Steps.{Step}
 use Rattle.spec_policy.specs.Tree.{Way, Join, and, or, Tree, leaf, trivial, unsatisfiable, node, tree}
-use Rattle.spec_policy.proofs.ByteLaws.{number-less}
+use Rattle.spec_policy.proofs.ByteLaws.{small-drop, number-less}
 use Rattle.spec_policy.proofs.NumberLaws.{number-join}
 use Rattle.spec_check.specs.Lawful.{holds}
 use Rattle.spec_check.specs.Passed.{Passed}
@@ -20,10 +20,10 @@ use Rattle.laws_check.proofs.LawfulTree.{numbers-below-nodes}
 use Rattle.spec_turns.specs.Status.{Status, running, ended, endedLeft, endedRight, halted, dropped, statusOf, isRunning}
 use Rattle.spec_turns.specs.State as states
 use Rattle.spec_turns.specs.State.{State, leafState, pairState, leafOver, pairWith}
-use Rattle.spec_turns.specs.Saved.{cellSize, stateSize, cellPlace, statusAt, offsetAt, zerosAt, counterAt, load, fits}
+use Rattle.spec_turns.specs.Saved.{aheadSize, cellSize, cellsSize, stateSize, cells, cellPlace, statusAt, offsetAt, zerosAt, counterAt, load, fits}
 use Rattle.spec_turns.specs.Rest.{gone, decidedBy, AtRest, leaf-waits, leaf-ended, leaf-halted, trivial-ended, unsatisfiable-halted, pair-runs, pair-decided}
-use Rattle.laws_turns.proofs.Cells.{holds-here, holds-left, holds-right}
-use Rattle.laws_turns.proofs.Fits.{fitting, fits-load}
+use Rattle.laws_turns.proofs.Cells.{cells-size, holds-here, holds-left, holds-right}
+use Rattle.laws_turns.proofs.Fits.{fitting, fits-cells, fits-load}
 use Rattle.laws_turns.proofs.Lasting.{in-cells}
 use Rattle.turn_paths.specs.Memory.{Cell, Mem, leafWith, held}
 use Rattle.turn_paths.proofs.Begin.{drop-held, pair-with-over}
@@ -87,7 +87,7 @@ held-rest (node w j i l r) bs m h p =
 
 -- ---- a record as one word
 
-module _ (bs : Bytes) (small : Small bs) (size : length bs ≡ stateSize) (i : ℕ) (below : i < mostNodes) (zero : zerosAt bs i ≡ 0) where
+module _ (bs : Bytes) (small : Small bs) (size : length bs ≡ cellsSize) (i : ℕ) (below : i < mostNodes) (zero : zerosAt bs i ≡ 0) where
   word-packed : number bs (cellPlace i) cellSize ≡ packed (statusAt bs i) (offsetAt bs i) 0 (counterAt bs i)
   unfolding statusAt offsetAt zerosAt counterAt cellPlace
   word-packed =
@@ -113,12 +113,15 @@ module _ (bs : Bytes) (small : Small bs) (size : length bs ≡ stateSize) (i : �
 -- ---- the whole state
 
 pub held-load : (policy state : Bytes) (ws : Words) → Passed policy → T (fits policy state) → length state ≡ stateSize → Small state
-    → {n : ℕ} → n ≡ nodeCount policy → Woken n state ws
-    → held (tree policy) (memoryOf ws) ≡ load (tree policy) state
+    → {n : ℕ} → n ≡ nodeCount policy → Woken n (cells state) ws
+    → held (tree policy) (memoryOf ws) ≡ load (tree policy) (cells state)
+unfolding cells
 held-load policy state ws ok fit size small e woken =
-    held-rest (tree policy) state (memoryOf ws)
+    let bs : Bytes = cells state in
+    let l : length bs ≡ cellsSize = cells-size state size in
+    held-rest (tree policy) bs (memoryOf ws)
     (λ i u.
     let b : i < mostNodes = in-cells policy ok i u in
     let n : i < nodeCount policy = numbers-below-nodes policy ok i u in
-    view-at ws i b ∙ ap celled (woken i (omega (arith, e, n))) ∙ cell-loaded state small size i b (fitting policy state fit .zeros i n))
+    view-at ws i b ∙ ap celled (woken i (omega (arith, e, n))) ∙ cell-loaded bs (small-drop aheadSize state small) l i b (fitting policy bs (fits-cells policy state fit) .zeros i n))
     (fits-load policy state fit)

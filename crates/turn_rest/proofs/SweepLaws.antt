@@ -4,13 +4,14 @@ use Prim.Native.Nat.{ℕ, zero, suc, _+_, _≤_, _<_}
 use native.Mathlib.Omega.{arith}
 use native.Mathlib.Nat.{eq-or-lt-of-le}
 use mathlib.Core.Path.{_≡_, refl, sym, ap, ap₂, _∙_, subst}
-use mathlib.Core.Bool.{Bool, true, false, _||_}
+use mathlib.Core.Bool.{Bool, true, false, _&&_, _||_}
 use mathlib.Core.Logic.{_⊎_, inl, inr, ⊎-elim}
 use lib.Dec.{T, eqb, eqb→eq}
-use lib.ListN.{length, set, length-set}
+use lib.ListN.{length, getD, set, length-set}
 use borrow.Author.Tests.{ne-eqb}
 use Rattle.actions.proofs.Tests.{no-of, or-cases, true-not-false}
 use Rattle.spec_policy.specs.Bytes.{Bytes, put}
+use Rattle.spec_policy.specs.Lists.{one}
 use Rattle.spec_policy.specs.Records.{mostNodes, nodeCount}
 use Rattle.spec_policy.specs.Tree.{Way, Join, NodeKind, aLeaf, aTrivial, anUnsatisfiable, aPair, noNode, NodeSteps, Tree, node, treeAt, tree}
 use Rattle.spec_check.specs.Lawful.{holds, Numbered}
@@ -18,16 +19,18 @@ use Rattle.spec_check.specs.Passed.{Passed}
 use Rattle.spec_check.specs.Numbers.{shaped, Distinct}
 use Rattle.spec_check.proofs.Numbers.{ChildrenLater, tree-read, children-read, tree-top, number-at, all-held}
 use Rattle.laws_check.proofs.LawfulTree.{lawful}
-use Rattle.spec_turns.specs.Status.{dropped, statusOf, isRunning}
+use Rattle.spec_turns.specs.Status.{Status, dropped, statusOf, isRunning}
 use Rattle.spec_turns.specs.State.{State, pairState, status, pairWith}
-use Rattle.spec_turns.specs.Saved.{stateSize, cellPlace, cell}
+use Rattle.spec_turns.specs.Saved.{cellsSize, cellPlace, cell}
 use Rattle.laws_turns.proofs.Cells.{lawful-apart, holds-left, holds-right, put-size, put-cell, put-elsewhere}
 use Rattle.laws_turns.specs.Cells.{cellAt}
+use Rattle.laws_turns.specs.Leaves.{isLeaf, leafWorth, leavesBelow}
+use Rattle.laws_turns.proofs.Leaves.{leaves-few, leaves-more, leaves-same}
 use Rattle.turn_paths.specs.Memory.{Cell, Mem, held}
 use Rattle.turn_paths.proofs.Begin.{drop-held, pair-with-over}
 use Rattle.turn_paths.proofs.Frames.{same-or-not, own-number, held-same, not-left-of-right, not-right-of-left}
-use Rattle.turn_memory.specs.Words.{Words, wordCount, celled, memoryOf}
-use Rattle.turn_memory.proofs.CellLaws.{view-here, view-other}
+use Rattle.turn_memory.specs.Words.{Words, wordCount, statusIn, celled, memoryOf}
+use Rattle.turn_memory.proofs.CellLaws.{view-here, view-other, status-read}
 use Rattle.turn_tables.proofs.FileNodes.{room}
 use Rattle.turn_rest.specs.Rest.{ownOf, droppedWord, sidesOver, underOf, recordAt, kindAt, runsAt}
 use Rattle.turn_rest.specs.Swept.{SidesDropped, Swept}
@@ -217,36 +220,57 @@ module _ {file : Bytes} (ok : Passed file) where
     under-by true t (aPair w j) e = under-none ws i (running-pair t)
     under-by false t (aPair w j) e = under-pair ws i h size w j e t
 
+  -- ---- what a node adds to the count
+
+  pub worth-read : (ws : Words) {i st r : ℕ} → i < n → st ≡ statusIn (getD ws i 0) → r ≡ one (isLeaf (kindAt file i) && isRunning (statusOf st)) → r ≡ leafWorth file (runsAt ws) i
+  unfolding leafWorth
+  worth-read ws {i} h e f = f ∙ ap (λ (x : Status). one (isLeaf (kindAt file i) && isRunning x)) (status-read ws i (omega (arith, room ok .few)) e)
+
+  pub count-few : {ws₀ ws : Words} {bs : Bytes} {i count more : ℕ} → Swept file ws₀ ws bs i count → more ≡ leafWorth file (runsAt ws) i → count + more ≤ i + 1
+  count-few {ws = ws} {i = i} g e = omega (arith, g .counted, e, leaves-more file (runsAt ws) i, leaves-few file (runsAt ws) (i + 1))
+
   -- ---- one record after another
 
   module _ (ws₀ : Words) where
-    pub swept-none : (state : Bytes) → length ws₀ ≡ wordCount → length state ≡ stateSize → Swept file ws₀ ws₀ state 0
-    swept-none state p q = record { most = omega arith; words = p; size = q; same = refl; sides = λ k h. absurd (omega arith); records = λ k h. absurd (omega arith) }
+    pub swept-none : (bs : Bytes) → length ws₀ ≡ wordCount → length bs ≡ cellsSize → Swept file ws₀ ws₀ bs 0 0
+    unfolding leavesBelow
+    swept-none bs p q = record {
+      most = omega arith;
+      words = p;
+      size = q;
+      same = refl;
+      sides = λ k h. absurd (omega arith);
+      records = λ k h. absurd (omega arith);
+      counted = refl;
+    }
 
-    pub swept-more : {ws ws′ : Words} {state state′ bytes : Bytes} {i : ℕ} → Swept file ws₀ ws state i → i < n
-        → ws′ ≡ underOf (kindAt file i) (runsAt ws i) (recordAt file i) ws → bytes ≡ cell (ownOf (kindAt file i) (memoryOf ws i)) → state′ ≡ put state (cellPlace i) bytes
-        → Swept file ws₀ ws′ state′ (i + 1)
+    pub swept-more : {ws ws′ : Words} {bs bs′ bytes : Bytes} {i count more : ℕ} → Swept file ws₀ ws bs i count → i < n
+        → more ≡ leafWorth file (runsAt ws) i
+        → ws′ ≡ underOf (kindAt file i) (runsAt ws i) (recordAt file i) ws → bytes ≡ cell (ownOf (kindAt file i) (memoryOf ws i)) → bs′ ≡ put bs (cellPlace i) bytes
+        → Swept file ws₀ ws′ bs′ (i + 1) (count + more)
     unfolding cellAt
-    swept-more {ws} {ws′} {state} {state′} {bytes} {i} g h e f q =
+    swept-more {ws} {ws′} {bs} {bs′} {bytes} {i} {count} {more} g h c e f q =
         let u : Under ws ws′ i = subst (λ (us : Words). Under ws us i) (sym e) (under-by ws i h (g .words) (runsAt ws i) refl (kindAt file i) refl) in
         let x : State = ownOf (kindAt file i) (memoryOf ws i) in
-        let p : state′ ≡ put state (cellPlace i) (cell x) = q ∙ ap (put state (cellPlace i)) f in
+        let p : bs′ ≡ put bs (cellPlace i) (cell x) = q ∙ ap (put bs (cellPlace i)) f in
         let b : i < mostNodes = omega (arith, h, room ok .few) in
         record {
           most = omega arith;
           words = u .size ∙ g .words;
-          size = ap length p ∙ put-size state i x (g .size) b;
+          size = ap length p ∙ put-size bs i x (g .size) b;
           same = u .same ∙ g .same;
           sides = λ k l. ⊎-elim
               (λ (z : k ≡ i). subst (SidesDropped file ws′) (sym z) (u .sides))
               (λ (z : k < i). still u (omega arith) (g .sides k z))
               (eq-or-lt-of-le (let v : k ≤ i = omega arith in v));
           records = λ k l. ⊎-elim
-              (λ (z : k ≡ i). subst (λ (y : ℕ). cellAt state′ y ≡ cell (ownOf (kindAt file y) (memoryOf ws′ y))) (sym z)
-              (ap (λ (o : Bytes). cellAt o i) p ∙ put-cell state i x (g .size) b ∙ ap (λ (c : Cell). cell (ownOf (kindAt file i) c)) (sym (u .low i (omega arith)))))
-              (λ (z : k < i). ap (λ (o : Bytes). cellAt o k) p ∙ put-elsewhere state i k x (g .size) b (ne-eqb i k (λ v. omega arith))
+              (λ (z : k ≡ i). subst (λ (y : ℕ). cellAt bs′ y ≡ cell (ownOf (kindAt file y) (memoryOf ws′ y))) (sym z)
+              (ap (λ (o : Bytes). cellAt o i) p ∙ put-cell bs i x (g .size) b ∙ ap (λ (c : Cell). cell (ownOf (kindAt file i) c)) (sym (u .low i (omega arith)))))
+              (λ (z : k < i). ap (λ (o : Bytes). cellAt o k) p ∙ put-elsewhere bs i k x (g .size) b (ne-eqb i k (λ v. omega arith))
               ∙ g .records k z ∙ ap (λ (c : Cell). cell (ownOf (kindAt file k) c)) (sym (u .low k (omega arith))))
               (eq-or-lt-of-le (let v : k ≤ i = omega arith in v));
+          counted = ap₂ _+_ (g .counted) c ∙ leaves-more file (runsAt ws) i
+              ∙ leaves-same file (runsAt ws) (runsAt ws′) (i + 1) (λ k l. ap (λ (c : Cell). isRunning (c .status)) (sym (u .low k (omega arith))));
         }
       where
         drops : {ws ws′ : Words} {i : ℕ} → Under ws ws′ i → (k : ℕ) → memoryOf ws k .status ≡ dropped → memoryOf ws′ k .status ≡ dropped
@@ -257,5 +281,5 @@ module _ {file : Bytes} (ok : Passed file) where
             let v = d w j q (ap (λ (c : Cell). isRunning (c .status)) (sym (u .low k l)) ∙ z) in
             (drops u (recordAt file k .left) (v .0), drops u (recordAt file k .right) (v .1))
 
-pub swept-all : {file : Bytes} {n i : ℕ} {ws₀ ws : Words} {state : Bytes} → Swept file ws₀ ws state i → n ≤ i → n ≡ nodeCount file → Swept file ws₀ ws state n
-swept-all {file} {n} {i} {ws₀} {ws} {state} g h e = let z : i ≡ n = omega (arith, g .most) in subst (Swept file ws₀ ws state) z g
+pub swept-all : {file : Bytes} {n i count : ℕ} {ws₀ ws : Words} {bs : Bytes} → Swept file ws₀ ws bs i count → n ≤ i → n ≡ nodeCount file → Swept file ws₀ ws bs n count
+swept-all {file} {n} {i} {count} {ws₀} {ws} {bs} g h e = let z : i ≡ n = omega (arith, g .most) in subst (λ (k : ℕ). Swept file ws₀ ws bs k count) z g

@@ -1,35 +1,53 @@
 -- The saved state at a call's end: once every record is written, each is what the state has of its node, and zeros follow.
 use Prim.Native.Nat.{ℕ, zero, _+_, _-_, _*_, _<_}
 use native.Mathlib.Omega.{arith}
-use mathlib.Core.Path.{_≡_, refl, sym, ap, _∙_, subst}
+use mathlib.Core.Path.{_≡_, refl, sym, ap, ap₂, _∙_, subst}
 use mathlib.Core.Bool.{Bool, true, false}
 use mathlib.Core.List.{_++_, append-nil}
 use lib.ListN.{length, take, drop, replicate, length-replicate, length-drop, drop-of-length-le}
 use lib.Seq.{drop-at, length-take-le}
 use Rattle.spec_policy.specs.Bytes.{Bytes, put}
 use Rattle.spec_policy.proofs.ByteLaws.{part-before, zeros-are}
-use Rattle.spec_policy.specs.Records.{nodeCount}
+use Rattle.spec_policy.specs.Records.{mostNodes, nodeCount}
 use Rattle.spec_policy.specs.Tree.{Way, Join, NodeKind, aLeaf, aTrivial, anUnsatisfiable, aPair, noNode, NodeSteps, Tree, leaf, trivial, unsatisfiable, node, numberOf, treeAt, tree}
 use Rattle.spec_check.specs.Passed.{Passed}
 use Rattle.spec_check.specs.Numbers.{shaped}
 use Rattle.spec_check.proofs.Numbers.{number-at, all-held}
 use Rattle.laws_check.proofs.LawfulTree.{lawful, numbers-below-nodes}
-use Rattle.spec_turns.specs.Status.{Status, dropped, isRunning}
+use Rattle.spec_turns.specs.Status.{Status, dropped, statusOf, isRunning}
 use Rattle.spec_turns.specs.State as states
 use Rattle.spec_turns.specs.State.{State, leafState, pairState, status, offset, counter, leftOf, rightOf, leafOver, pairWith}
-use Rattle.spec_turns.specs.Saved.{cellSize, cellPlace, cell, saved}
+use Rattle.spec_turns.specs.Saved.{cellSize, cellPlace, cell, savedCells, runningLeaves, ahead, saved, isRunningAt}
 use Rattle.spec_turns.specs.Rest.{gone}
-use Rattle.laws_turns.proofs.Cells.{lawful-apart, Kept, kept-same, cells-same, saved-length, saved-kept}
+use Rattle.laws_turns.proofs.Cells.{lawful-apart, status-is, status-back, Kept, kept-same, cells-same, cells-length, cells-kept}
+use Rattle.laws_turns.proofs.Leaves.{kept-leaves, leaves-few, leaves-same, counted}
 use Rattle.laws_turns.specs.Cells.{cellAt}
-use Rattle.laws_turns.proofs.Fits.{saved-tail}
+use Rattle.laws_turns.proofs.Fits.{cells-tail}
 use Rattle.laws_turns.proofs.Lasting.{in-cells}
-use Rattle.turn_paths.specs.Memory.{Mem, leafWith, held}
+use Rattle.turn_paths.specs.Memory.{Cell, Mem, leafWith, held}
 use Rattle.turn_paths.proofs.Begin.{drop-held, pair-with-over, left-held, right-held}
 use Rattle.turn_memory.specs.Words.{Words, memoryOf}
 use Rattle.turn_tables.proofs.FileNodes.{room}
-use Rattle.turn_rest.specs.Rest.{ownOf, recordAt, kindAt}
+use Rattle.turn_rest.specs.Rest.{ownOf, recordAt, kindAt, runsAt}
 use Rattle.turn_rest.specs.Swept.{Swept}
 use Rattle.turn_rest.proofs.SweepLaws.{leftTree, rightTree, each-root}
+
+-- what is saved of a node has its status
+with-status : (s : Status) (m : Bool) (o c : ℕ) → status (leafWith s m o c) ≡ s
+unfolding leafWith leafOver status
+with-status s m o c = go (isRunning s)
+  where
+    go : (x : Bool) → status (elim x [ true ↦ leafState s m o c | false ↦ leafOver s ]) ≡ s
+    go true = refl
+    go false = refl
+
+own-status : (k : NodeKind) (c : Cell) → status (ownOf k c) ≡ c .status
+unfolding ownOf
+own-status aLeaf c = with-status (c .status) (c .asked) (c .offset) (c .counter)
+own-status aTrivial c = with-status (c .status) (c .asked) 0 0
+own-status anUnsatisfiable c = with-status (c .status) (c .asked) 0 0
+own-status noNode c = with-status (c .status) (c .asked) 0 0
+own-status (aPair w j) c = with-status (c .status) (c .asked) 0 0
 
 -- ---- a tree
 
@@ -96,11 +114,11 @@ module _ (m : Mem) (out : Bytes) where
 
 -- ---- the whole state
 
-module _ {file : Bytes} (ok : Passed file) {ws₀ ws : Words} {state : Bytes} (g : Swept file ws₀ ws state (nodeCount file)) where
+module _ {file : Bytes} (ok : Passed file) {ws₀ ws : Words} {bs : Bytes} {leaves : ℕ} (g : Swept file ws₀ ws bs (nodeCount file) leaves) where
   laid-step : (i : ℕ) → i < nodeCount file → (k : NodeKind) → kindAt file i ≡ k → (x : NodeSteps)
       → treeAt file i ≡ shaped k i x (leftTree ok i) (rightTree ok i)
-      → ((w : Way) (j : Join) → k ≡ aPair w j → Laid (leftTree ok i) (memoryOf ws) state × Laid (rightTree ok i) (memoryOf ws) state)
-      → Laid (shaped k i x (leftTree ok i) (rightTree ok i)) (memoryOf ws) state
+      → ((w : Way) (j : Join) → k ≡ aPair w j → Laid (leftTree ok i) (memoryOf ws) bs × Laid (rightTree ok i) (memoryOf ws) bs)
+      → Laid (shaped k i x (leftTree ok i) (rightTree ok i)) (memoryOf ws) bs
   unfolding shaped Laid ownOf cellAt
   laid-step i h aLeaf e x q f = g .records i h ∙ ap (λ (k : NodeKind). cell (ownOf k (memoryOf ws i))) e
   laid-step i h aTrivial e x q f = g .records i h ∙ ap (λ (k : NodeKind). cell (ownOf k (memoryOf ws i))) e
@@ -117,11 +135,11 @@ module _ {file : Bytes} (ok : Passed file) {ws₀ ws : Words} {state : Bytes} (g
     f w j refl .1,
   )
 
-  -- the bytes are those of the state that the words held
-  swept-kept : Kept (tree file) (held (tree file) (memoryOf ws₀)) state
+  -- the cells are those of the state that the words held
+  swept-kept : Kept (tree file) (held (tree file) (memoryOf ws₀)) bs
   swept-kept =
-      subst (λ (s : State). Kept (tree file) s state) (g .same)
-      (laid-kept (memoryOf ws) state (tree file) (each-root ok (λ t. Laid t (memoryOf ws) state) laid-step))
+      subst (λ (s : State). Kept (tree file) s bs) (g .same)
+      (laid-kept (memoryOf ws) bs (tree file) (each-root ok (λ t. Laid t (memoryOf ws) bs) laid-step))
 
   abbrev t : Tree
   t = tree file
@@ -133,35 +151,55 @@ module _ {file : Bytes} (ok : Passed file) {ws₀ ws : Words} {state : Bytes} (g
   count = nodeCount file
 
   abbrev zeros : Bytes
-  zeros = replicate (length state - cellPlace count) 0
+  zeros = replicate (length bs - cellPlace count) 0
 
-  cleared-cell : (k : ℕ) → k < count → cellAt (put state (cellPlace count) zeros) k ≡ cellAt state k
+  cleared-cell : (k : ℕ) → k < count → cellAt (put bs (cellPlace count) zeros) k ≡ cellAt bs k
   unfolding cellAt cellPlace
   cleared-cell k h =
-      part-before state (cellPlace count) zeros (cellPlace k) cellSize (omega (arith, length-replicate (length state - cellPlace count) zero, room ok .few, g .size)) (omega arith)
+      part-before bs (cellPlace count) zeros (cellPlace k) cellSize (omega (arith, length-replicate (length bs - cellPlace count) zero, room ok .few, g .size)) (omega arith)
 
-  cleared-rest : drop (cellPlace count) (put state (cellPlace count) zeros) ≡ zeros
+  cleared-rest : drop (cellPlace count) (put bs (cellPlace count) zeros) ≡ zeros
   unfolding put cellPlace
   cleared-rest =
-      let l : length zeros ≡ length state - cellPlace count = length-replicate (length state - cellPlace count) zero in
-      drop-at (take (cellPlace count) state) (zeros ++ drop (cellPlace count + length zeros) state) (cellPlace count)
-      (length-take-le (cellPlace count) state (omega (arith, room ok .few, g .size)))
-      ∙ ap (λ (l : Bytes). zeros ++ l) (drop-of-length-le state {i = cellPlace count + length zeros} (omega arith)) ∙ append-nil zeros
+      let l : length zeros ≡ length bs - cellPlace count = length-replicate (length bs - cellPlace count) zero in
+      drop-at (take (cellPlace count) bs) (zeros ++ drop (cellPlace count + length zeros) bs) (cellPlace count)
+      (length-take-le (cellPlace count) bs (omega (arith, room ok .few, g .size)))
+      ∙ ap (λ (l : Bytes). zeros ++ l) (drop-of-length-le bs {i = cellPlace count + length zeros} (omega arith)) ∙ append-nil zeros
 
   -- "node records from n on .. are zero"
-  saved-rest : drop (cellPlace count) (saved t s) ≡ zeros
+  saved-rest : drop (cellPlace count) (savedCells t s) ≡ zeros
   saved-rest =
-      let e : length (drop (cellPlace count) (saved t s)) ≡ length state - cellPlace count = simp (length-drop, saved-length t (in-cells file ok) s, g .size) in
-      zeros-are (drop (cellPlace count) (saved t s)) (saved-tail count (room ok .few) t (numbers-below-nodes file ok) s) ∙ ap (λ (k : ℕ). replicate k zero) e
+      let e : length (drop (cellPlace count) (savedCells t s)) ≡ length bs - cellPlace count = simp (length-drop, cells-length t (in-cells file ok) s, g .size) in
+      zeros-are (drop (cellPlace count) (savedCells t s)) (cells-tail count (room ok .few) t (numbers-below-nodes file ok) s) ∙ ap (λ (k : ℕ). replicate k zero) e
 
-  all-tidied : put state (cellPlace count) zeros ≡ saved t s
+  all-tidied : put bs (cellPlace count) zeros ≡ savedCells t s
   all-tidied =
-      cells-same (put state (cellPlace count) zeros) (saved t s) count
-      (λ i h. cleared-cell i h ∙ kept-same t s state (saved t s) swept-kept (saved-kept t (lawful-apart t (lawful file ok)) (in-cells file ok) s) i (all-held file (ok .kept5) i h))
+      cells-same (put bs (cellPlace count) zeros) (savedCells t s) count
+      (λ i h. cleared-cell i h ∙ kept-same t s bs (savedCells t s) swept-kept (cells-kept t (lawful-apart t (lawful file ok)) (in-cells file ok) s) i (all-held file (ok .kept5) i h))
       (cleared-rest ∙ sym saved-rest)
 
--- zeros are written after the records
-pub tidied : {file : Bytes} → Passed file → {n : ℕ} → n ≡ nodeCount file → {ws₀ ws : Words} {state out : Bytes} → Swept file ws₀ ws state n
-    → out ≡ put state (cellPlace n) (replicate (length state - cellPlace n) 0) → out ≡ saved (tree file) (held (tree file) (memoryOf ws₀))
-tidied {file} ok e {ws₀} {ws} {state} g h =
-    h ∙ ap (λ (k : ℕ). put state (cellPlace k) (replicate (length state - cellPlace k) 0)) e ∙ all-tidied ok (subst (Swept file ws₀ ws state) e g)
+  -- a record says of its node whether it runs
+  runs-alike : (k : ℕ) → k < count → runsAt ws k ≡ isRunningAt bs k
+  unfolding isRunningAt cellAt
+  runs-alike k h =
+      let b : k < mostNodes = omega (arith, h, room ok .few) in
+      let x : State = ownOf (kindAt file k) (memoryOf ws k) in
+      sym (ap (λ (z : Status). isRunning z) (ap statusOf (status-is bs k (g .size) b x (g .records k h)) ∙ status-back (status x) ∙ own-status (kindAt file k) (memoryOf ws k)))
+
+  leaves-are : leaves ≡ runningLeaves t s
+  leaves-are =
+      g .counted ∙ leaves-same file (runsAt ws) (isRunningAt bs) count runs-alike ∙ counted ok bs
+      ∙ sym (kept-leaves t s bs (in-cells file ok) (g .size) swept-kept)
+
+-- zeros are written after the records, and the count in front of them
+pub tidied : {file : Bytes} → Passed file → {n : ℕ} → n ≡ nodeCount file → {ws₀ ws : Words} {bs cs out : Bytes} {leaves : ℕ} → Swept file ws₀ ws bs n leaves
+    → cs ≡ put bs (cellPlace n) (replicate (length bs - cellPlace n) 0) → out ≡ ahead leaves ++ cs → out ≡ saved (tree file) (held (tree file) (memoryOf ws₀))
+unfolding saved
+tidied {file} ok e {ws₀} {ws} {bs} {leaves = leaves} g h f =
+    let z : Swept file ws₀ ws bs (nodeCount file) leaves = subst (λ (k : ℕ). Swept file ws₀ ws bs k leaves) e g in
+    f ∙ ap₂ {C = Bytes} (λ (k : ℕ) (l : Bytes). ahead k ++ l) (leaves-are ok z)
+    (h ∙ ap (λ (k : ℕ). put bs (cellPlace k) (replicate (length bs - cellPlace k) 0)) e ∙ all-tidied ok z)
+
+-- a count of at most 31 fits its byte
+pub few-leaves : {file : Bytes} → Passed file → {n : ℕ} → n ≡ nodeCount file → {ws₀ ws : Words} {bs : Bytes} {leaves : ℕ} → Swept file ws₀ ws bs n leaves → leaves < 256
+few-leaves {file} ok {n} e {ws = ws} g = omega (arith, e, g .counted, leaves-few file (runsAt ws) n, room ok .few)

@@ -6,7 +6,7 @@ ghost use Rattle.spec_policy.specs.Records.{mostNodes, nodeCount};
 ghost use Rattle.spec_policy.specs.Tree.{tree};
 ghost use Rattle.spec_check.specs.Passed.{Passed};
 ghost use Rattle.spec_turns.specs.Turn.{fresh};
-ghost use Rattle.spec_turns.specs.Saved.{stateSize};
+ghost use Rattle.spec_turns.specs.Saved.{stateSize, cells};
 ghost use Rattle.turn_paths.specs.Memory.{held};
 ghost use Rattle.turn_memory.specs.Words.{wordCount, memoryOf};
 ghost use Rattle.turn_rest.specs.Rest.{KeptFrom, Woken};
@@ -35,7 +35,7 @@ pub fn awaken(policy: &[u8], n: usize, mem: &mut [u64; WORDS])
 // The memory of a call on a saved state: each node's record as one word.
 pub fn wake(state: &[u8], n: usize, mem: &mut [u64; WORDS])
     requires { ⌜ (length (now state) ≡ stateSize) × ((length (now mem) ≡ wordCount) × (n ≤ mostNodes)) ⌝ }
-    ensures { λ _. ⌜ Woken n (now (state .entry)) (now (mem .exit)) × KeptFrom n (now (mem .entry)) (now (mem .exit)) ⌝ }
+    ensures { λ _. ⌜ Woken n (cells (now (state .entry))) (now (mem .exit)) × KeptFrom n (now (mem .entry)) (now (mem .exit)) ⌝ }
 {
     let mut i = 0;
     while i < n {

@@ -9,7 +9,7 @@ ghost use Rattle.spec_policy.specs.Records.{mostNodes, nodeSize, nodeCount, nod
 ghost use Rattle.spec_policy.specs.Tree.{aLeaf, tree};
 ghost use Rattle.spec_check.specs.Passed.{Passed};
 ghost use Rattle.spec_turns.specs.Status.{statusNumber, statusOf};
-ghost use Rattle.spec_turns.specs.Saved.{stateSize, cell, saved};
+ghost use Rattle.spec_turns.specs.Saved.{stateSize, cells, cell, saved};
 ghost use Rattle.turn_paths.specs.Memory.{held};
 ghost use Rattle.turn_memory.specs.Words.{wordCount, memoryOf};
 ghost use Rattle.turn_rest.specs.Rest.{ownOf, sidesOver, Rested};
@@ -27,6 +27,8 @@ use turn_memory::status_at;
 use turn_state::DROPPED;
 use turn_state::RUNNING;
 use turn_state::clear_from;
+use turn_state::running_leaf;
+use turn_state::save_count;
 use turn_state::save_word;
 
 // A number that stands for no status is read as dropped, and saved so.
@@ -83,18 +85,22 @@ fn rest(policy: &[u8], node: usize, mem: &mut [u64; WORDS]) -> u64
     }
 }
 
-// The records of the nodes.
-fn sweep(policy: &[u8], n: usize, mem: &mut [u64; WORDS], state: &mut [u8])
+// The records of the nodes. Gives the count of leaves that run: a node's word is as it will be saved once its turn comes.
+fn sweep(policy: &[u8], n: usize, mem: &mut [u64; WORDS], state: &mut [u8]) -> u64
     requires { ⌜ Passed (now policy) × (n ≡ nodeCount (now policy)) ⌝ }
     requires { ⌜ (length (now mem) ≡ wordCount) × (length (now state) ≡ stateSize) ⌝ }
-    ensures { λ _. ⌜ Swept (now (policy .entry)) (now (mem .entry)) (now (mem .exit)) (now (state .exit)) n ⌝ }
+    ensures { λ r. ⌜ Swept (now (policy .entry)) (now (mem .entry)) (now (mem .exit)) (cells (now (state .exit))) n r ⌝ }
+    ensures { λ _. ⌜ length (now (state .exit)) ≡ stateSize ⌝ }
 {
+    let mut leaves = 0;
     let mut i = 0;
     while i < n {
+        leaves += running_leaf(policy, i, status_at(mem, i));
         let x = rest(policy, i, mem);
         save_word(state, i, x);
         i += 1;
     }
+    leaves
 }
 
 // The saved state at a call's end, every byte of it.
@@ -104,6 +110,7 @@ pub fn tidy(policy: &[u8], n: usize, mem: &mut [u64; WORDS], state: &mut [u8])
     ensures { λ _. ⌜ now (state .exit) ≡ saved (tree (now (policy .entry))) (held (tree (now (policy .entry))) (memoryOf (now (mem .entry)))) ⌝ }
     ensures { λ _. ⌜ length (now (mem .exit)) ≡ wordCount ⌝ }
 {
-    sweep(policy, n, mem, state);
+    let leaves = sweep(policy, n, mem, state);
     clear_from(state, n);
+    save_count(state, leaves);
 }

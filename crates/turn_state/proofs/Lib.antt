@@ -1,2 +1,4 @@
+mod LeafLaws
+mod PlaceLaws
 mod WordLaws
 mod ZeroLaws

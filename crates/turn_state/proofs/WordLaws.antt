@@ -1,5 +1,5 @@
--- A word written as the eight bytes of a record.
-use Prim.Native.Nat.{ℕ, suc, _+_, _*_, _/_, _%_, _<_}
+-- A word written as eight bytes.
+use Prim.Native.Nat.{ℕ, suc, _+_, _/_, _%_, _≤_}
 use native.Mathlib.Omega.{arith}
 use native.Mathlib.Nat.{div-one}
 use mathlib.Core.Path.{_≡_, sym, ap, _∙_}
@@ -7,9 +7,7 @@ use mathlib.Core.List.{[], _∷_}
 use lib.ListN.{length, set}
 use lib.Seq.{sets}
 use Rattle.spec_policy.specs.Bytes.{Bytes, spell, put}
-use Rattle.spec_policy.specs.Records.{mostNodes}
 use Rattle.spec_policy.proofs.ByteLaws.{put-sets}
-use Rattle.spec_turns.specs.Saved.{stateSize, cellPlace}
 
 -- eight bytes, one after another
 eight : (bs : Bytes) (p a b c d e f g h : ℕ)
@@ -25,16 +23,16 @@ eight bs p a b c d e f g h =
     let e7 : p + 7 ≡ suc (suc (suc (suc (suc (suc (suc p)))))) = omega arith in
     rw (e1, e2, e3, e4, e5, e6, e7)
 
-pub record-put : (bs : Bytes) (i x : ℕ) → length bs ≡ stateSize → i < mostNodes
-    → set (set (set (set (set (set (set (set bs (8 * i) (x / 72057594037927936 % 256)) (8 * i + 1) (x / 281474976710656 % 256)) (8 * i + 2) (x / 1099511627776 % 256))
-    (8 * i + 3) (x / 4294967296 % 256)) (8 * i + 4) (x / 16777216 % 256)) (8 * i + 5) (x / 65536 % 256)) (8 * i + 6) (x / 256 % 256)) (8 * i + 7) (x % 256)
-    ≡ put bs (cellPlace i) (spell 8 x)
-unfolding cellPlace spell
-record-put bs i x h l =
+pub word-put : (bs : Bytes) (p x : ℕ) → p + 8 ≤ length bs
+    → set (set (set (set (set (set (set (set bs p (x / 72057594037927936 % 256)) (p + 1) (x / 281474976710656 % 256)) (p + 2) (x / 1099511627776 % 256))
+    (p + 3) (x / 4294967296 % 256)) (p + 4) (x / 16777216 % 256)) (p + 5) (x / 65536 % 256)) (p + 6) (x / 256 % 256)) (p + 7) (x % 256)
+    ≡ put bs p (spell 8 x)
+unfolding spell
+word-put bs p x h =
     let z : x % 256 ≡ x / 1 % 256 = ap (λ (y : ℕ). y % 256) (sym (div-one x)) in
-    eight bs (8 * i) (x / 72057594037927936 % 256) (x / 281474976710656 % 256) (x / 1099511627776 % 256) (x / 4294967296 % 256) (x / 16777216 % 256)
+    eight bs p (x / 72057594037927936 % 256) (x / 281474976710656 % 256) (x / 1099511627776 % 256) (x / 4294967296 % 256) (x / 16777216 % 256)
     (x / 65536 % 256) (x / 256 % 256) (x % 256)
-    ∙ ap (λ (y : ℕ). sets bs (8 * i) (x / 72057594037927936 % 256
+    ∙ ap (λ (y : ℕ). sets bs p (x / 72057594037927936 % 256
     ∷ x / 281474976710656 % 256
     ∷ x / 1099511627776 % 256
     ∷ x / 4294967296 % 256
@@ -43,4 +41,4 @@ record-put bs i x h l =
     ∷ x / 256 % 256
     ∷ y
     ∷ [])) z
-    ∙ sym (put-sets bs (8 * i) (spell 8 x) (omega arith))
+    ∙ sym (put-sets bs p (spell 8 x) (omega arith))

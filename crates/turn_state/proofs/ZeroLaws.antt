@@ -14,7 +14,8 @@ use Rattle.spec_policy.specs.Bytes.{Bytes, number, put}
 use Rattle.spec_policy.specs.Lists.{every}
 use Rattle.spec_policy.proofs.ByteLaws.{put-sets, put-none, put-append}
 use Rattle.spec_policy.proofs.NumberLaws.{byte-first}
-use Rattle.spec_turns.specs.Saved.{cellSize, stateSize, cellPlace}
+use Rattle.spec_turns.specs.Saved.{aheadSize, cellSize, stateSize, cells, cellPlace}
+use Rattle.turn_state.proofs.PlaceLaws.{cells-rest}
 
 abbrev pub isZero : ℕ → Bool
 isZero b = eqb b 0
@@ -31,9 +32,9 @@ zero-or (suc a) b =
 pub rest : Bytes → ℕ → Bool
 rest bs i = every isZero (drop i bs)
 
-pub rest-whole : (bs : Bytes) (n : ℕ) → every (λ b. eqb b 0) (drop (cellPlace n) bs) ≡ rest bs (cellSize * n)
+pub rest-whole : (bs : Bytes) (n : ℕ) → every (λ b. eqb b 0) (drop (cellPlace n) (cells bs)) ≡ rest bs (aheadSize + cellSize * n)
 unfolding rest cellPlace
-rest-whole bs n = refl
+rest-whole bs n = ap (λ (l : Bytes). every isZero l) (cells-rest bs (cellSize * n))
 
 -- one more byte joined
 pub rest-joined : (bs : Bytes) (i a x : ℕ) → length bs ≡ stateSize → i < stateSize → x ≡ number bs i 1

@@ -12,6 +12,7 @@ use Rattle.spec_check.proofs.Numbers.{ChildrenLater, number-at}
 use Rattle.spec_policy.specs.Tree.{treeAt}
 use Rattle.file_records.specs.declared.Kind.{Kind}
 use Rattle.file_records.specs.Kinds.{kindOf}
+use Rattle.spec_turns.specs.Saved.{cells}
 use Rattle.call_fits.specs.Alone.{fitsAlone}
 use Rattle.call_fits.proofs.FileLaws.{frame, in-view, steps-inside, counts, is-leaf, is-trivial, is-none, is-unsatisfiable, is-pair, pair-later}
 use Rattle.call_fits.proofs.node_fits.Statement.{statement}
@@ -27,7 +28,7 @@ module _ (c : tie.After-view-kind) where
   file = start c .args .policy .now
 
   abbrev bs : Bytes
-  bs = start c .args .state .now
+  bs = cells (start c .args .state .now)
 
   abbrev i : ℕ
   i = start c .args .i

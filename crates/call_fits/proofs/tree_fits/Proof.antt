@@ -1,8 +1,9 @@
--- `tree_fits` meets its contract. The loop's invariant: `first` is the number of the first step of the nodes from i on, and `fit` is known of
--- those nodes.
+-- `tree_fits` meets its contract. The loop's invariant: `first` is the number of the first step of the nodes from i on, `fit` is known of those
+-- nodes, and `leaves` of them are leaves that run.
 use Prim.Native.Nat.{ℕ, _+_, _-_, _≤_, _<_}
 use native.Mathlib.Omega.{arith}
-use mathlib.Core.Path.{_≡_, refl, sym}
+use mathlib.Core.Path.{_≡_, refl, sym, ap₂, _∙_}
+use mathlib.Core.Bool.{Bool, _&&_}
 use lib.Dec.{lit<}
 use lib.ListN.{length, length-set}
 use Rattle.spec_policy.specs.Bytes.{Bytes}
@@ -11,15 +12,18 @@ use Rattle.spec_policy.specs.Tree.{firstStep}
 use Rattle.spec_policy.proofs.NodeLaws.{first-over}
 use Rattle.spec_check.proofs.Rows.{all-owned}
 use Rattle.call_fits.proofs.FileLaws.{frame, in-view, counts, step-back}
+use Rattle.spec_turns.specs.Saved.{cells}
+use Rattle.call_fits.proofs.CountLaws.{LeavesFrom, leaves-from-none, leaves-from-few, leaves-from-more, leaves-counted}
 use Rattle.call_fits.proofs.TreeLaws.{Known, known-more, root}
 use Rattle.call_fits.proofs.tree_fits.Statement.{statement}
 use Rattle.call_fits.proofs.tree_fits.Tie as tie
 
 abbrev Inv-loop : tie.InvT-loop
-Inv-loop policy n m state fit₀ first₀ i₀ fit first i = (i ≤ n) × (first ≡ firstStep policy i) × (length fit ≡ 31) × Known policy state n fit i
+Inv-loop policy n m state fit₀ first₀ leaves₀ i₀ fit first leaves i =
+    (i ≤ n) × (first ≡ firstStep policy i) × (length fit ≡ 31) × Known policy (cells state) n fit i × LeavesFrom policy (cells state) n leaves i
 
 abbrev μ-loop : tie.MeasureT-loop
-μ-loop policy n m state fit₀ first₀ i₀ fit first i = i
+μ-loop policy n m state fit₀ first₀ leaves₀ i₀ fit first leaves i = i
 
 loop-holds : tie.Need-loop-holds Inv-loop μ-loop
 loop-holds c =
@@ -28,7 +32,8 @@ loop-holds c =
       omega arith,
       omega (arith, first-over (s .args .policy .now) (s .args .n) (omega arith), all-owned _ (s .pre .0 .0 .kept6)),
       refl,
-      λ k h l. absurd (omega arith),
+      (λ k h l. absurd (omega arith)),
+      leaves-from-none _ _ _,
     )
 
 sub-i : tie.Need-sub-i Inv-loop μ-loop
@@ -87,32 +92,65 @@ node-fits-requires c κs =
 array-write-fit : tie.Need-array-write-fit Inv-loop μ-loop
 array-write-fit c = let d = c .before .before in omega (arith, below d, frame (start d .pre .0 .0))
 
+-- ---- its part of the count
+
+saved-status-requires : tie.Need-saved-status-requires Inv-loop μ-loop
+saved-status-requires c κs = let d = c .before .before in (start d .pre .1, omega (arith, below d, frame (start d .pre .0 .0)))
+
+running-leaf-requires : tie.Need-running-leaf-requires Inv-loop μ-loop
+running-leaf-requires c κs = let d = c .before .before .before in in-view (start d .pre .0 .0) _ _ (below d) refl
+
+module _ (c : tie.After-running-leaf Inv-loop μ-loop) where
+  abbrev turn : tie.After-view-count Inv-loop μ-loop
+  turn = c .before .before .before .before
+
+  more : LeavesFrom (file turn) (cells (start turn .args .state .now)) (start turn .args .n) (turn .before .before .loop .leaves + c .running-leaf .result) (now-i turn - 1)
+  more =
+      let l = turn .before .before .loop in
+      leaves-from-more _ _ _ (l .leaves) (l .i) _ _ (omega arith) (l .inv .4) (c .before .saved-status .ensures) (c .running-leaf .ensures)
+
+add-leaves : tie.Need-add-leaves Inv-loop μ-loop
+add-leaves c =
+    let d = turn c in
+    let l = d .before .before .loop in
+    omega (arith, start d .pre .0 .1, frame (start d .pre .0 .0), leaves-from-few _ _ _ (l .leaves + c .running-leaf .result) (l .i - 1) (more c))
+
 loop-less : tie.Need-loop-less Inv-loop μ-loop
 loop-less c = omega arith
 
 loop-again : tie.Need-loop-again Inv-loop μ-loop
 loop-again c =
-    let d = c .before .before in
+    let d = turn c in
     let l = d .before .before .loop in (
       omega (arith, l .inv .0),
       omega (arith, back d, l .inv .1),
       simp length-set (l .inv .2),
-      known-more _ _ _ (l .fit) (l .i) _ (omega arith) (omega (arith, below d, frame (start d .pre .0 .0), l .inv .2)) (l .inv .3) (c .node-fits .ensures),
+      known-more _ _ _ (l .fit) (l .i) _ (omega arith) (omega (arith, below d, frame (start d .pre .0 .0), l .inv .2)) (l .inv .3) (c .before .before .node-fits .ensures),
+      more c,
     )
 
--- ---- the root
+-- ---- the root, and the count
 
 array-read-result : tie.Need-array-read-result Inv-loop μ-loop
 array-read-result c = lit< tt
 
-saved-status-requires : tie.Need-saved-status-requires Inv-loop μ-loop
-saved-status-requires c κs = (c .before .before .before .before .pre .1, lit< tt)
+saved-status-requires-2 : tie.Need-saved-status-requires-2 Inv-loop μ-loop
+saved-status-requires-2 c κs = (c .before .before .before .before .pre .1, lit< tt)
+
+is-ahead-requires : tie.Need-is-ahead-requires Inv-loop μ-loop
+is-ahead-requires c κs =
+    let s = c .before .before .before .before .before in
+    let l = c .before .before .loop in
+    (s .pre .1, omega (arith, s .pre .0 .1, frame (s .pre .0 .0), leaves-from-few _ _ _ (l .leaves) (l .i) (l .inv .4)))
 
 returns : tie.Need-returns Inv-loop μ-loop
 returns c =
-    let s = c .before .before .before .before .before in
+    let s = c .before .before .before .before .before .before in
+    let l = c .before .before .before .loop in
     let f = frame (s .pre .0 .0) in
-    root _ _ _ _ (c .before .before .loop .inv .3 0 (omega arith) (omega (arith, f .some-node, s .pre .0 .1))) (c .saved-status .ensures)
+    ap₂ (λ (a b : Bool). a && b)
+    (root _ _ _ _ (l .inv .3 0 (omega arith) (omega (arith, f .some-node, s .pre .0 .1))) (c .before .saved-status2 .ensures))
+    (c .is-ahead .ensures ∙ leaves-counted (s .pre .0 .0) _ _ (l .leaves) (l .i) (s .pre .0 .1) (c .before .before .loop-test .left) (l .inv .4))
 
 pub tree-fits-spec : {M : Type 1} → statement M
 tree-fits-spec =
@@ -128,8 +166,12 @@ tree-fits-spec =
     slice-aggregate-node-fits
     node-fits-requires
     array-write-fit
+    saved-status-requires
+    running-leaf-requires
+    add-leaves
     loop-less
     loop-again
     array-read-result
-    saved-status-requires
+    saved-status-requires-2
+    is-ahead-requires
     returns)

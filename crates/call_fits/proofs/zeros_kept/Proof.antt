@@ -4,13 +4,13 @@ use native.Mathlib.Omega.{arith}
 use mathlib.Core.Path.{_≡_, refl, sym, ap, _∙_}
 use borrow.Author.Tests.{eq-eqb, ne-eqb}
 use Rattle.spec_policy.proofs.Tested.{rest-on, rest-off}
-use Rattle.spec_turns.specs.Saved.{zerosUpTo}
+use Rattle.spec_turns.specs.Saved.{cells, zerosUpTo}
 use Rattle.call_fits.proofs.ZeroLaws.{isZero, zeros-none, zeros-last}
 use Rattle.call_fits.proofs.zeros_kept.Statement.{statement}
 use Rattle.call_fits.proofs.zeros_kept.Tie as tie
 
 abbrev Inv-loop : tie.InvT-loop
-Inv-loop state n i₀ i = (i ≤ n) × (zerosUpTo state n ≡ zerosUpTo state i)
+Inv-loop state n i₀ i = (i ≤ n) × (zerosUpTo (cells state) n ≡ zerosUpTo (cells state) i)
 
 abbrev μ-loop : tie.MeasureT-loop
 μ-loop state n i₀ i = i

@@ -1,12 +1,13 @@
 -- `saved_word` meets its contract.
 use borrow.Author.Needs.{needs}
-use Rattle.spec_turns.specs.Saved.{cellPlace}
+use mathlib.Core.Path.{_∙_}
+use Rattle.spec_turns.specs.Saved.{cellSize}
+use Rattle.turn_state.proofs.PlaceLaws.{cell-word}
 use Rattle.turn_state.proofs.saved_word.Statement.{statement}
 use Rattle.turn_state.proofs.saved_word.Tie as tie
 
 returns : tie.Need-returns
-unfolding cellPlace
-returns c = c .word64 .ensures
+returns c = c .word64 .ensures ∙ cell-word _ _ _ (c .before .cell-place .ensures) cellSize
 
 pub saved-word-spec : {M : Type 1} → statement M
-saved-word-spec = tie.close (tie.spec (λ c. search needs) (λ c κs. search needs) returns)
+saved-word-spec = tie.close (tie.spec (λ c κs. search needs) (λ c κs. search needs) returns)

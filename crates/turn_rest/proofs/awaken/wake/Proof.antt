@@ -3,13 +3,13 @@ use Prim.Native.Nat.{ℕ, _-_}
 use native.Mathlib.Omega.{arith}
 use mathlib.Core.Path.{_≡_, refl}
 use Rattle.spec_policy.specs.Bytes.{number}
-use Rattle.spec_turns.specs.Saved.{cellSize, cellPlace}
+use Rattle.spec_turns.specs.Saved.{cellSize, cells, cellPlace}
 use Rattle.turn_rest.proofs.Awakened.{Filled, filled-none, filled-more, filled-kept, filled-words}
 use Rattle.turn_rest.proofs.awaken.wake.Statement.{statement}
 use Rattle.turn_rest.proofs.awaken.wake.Tie as tie
 
 abbrev Inv-loop : tie.InvT-loop
-Inv-loop state n mem₀ i₀ mem i = Filled (λ (k x : ℕ). x ≡ number state (cellPlace k) cellSize) n mem₀ mem i
+Inv-loop state n mem₀ i₀ mem i = Filled (λ (k x : ℕ). x ≡ number (cells state) (cellPlace k) cellSize) n mem₀ mem i
 
 abbrev μ-loop : tie.MeasureT-loop
 μ-loop state n mem₀ i₀ mem i = n - i
