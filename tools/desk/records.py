@@ -1,0 +1,76 @@
+"""A policy's records as its text has them, one a line: taken apart to be shown, never to be judged."""
+import re
+
+NODES = {"leaf": "set number", "trivial": "", "unsatisfiable": "",
+         "and": "node node", "seq-and": "node node", "or": "node node", "seq-or": "node node"}
+STEPS = {"next": "step step", "ok": "step", "sup": "step", "ins": "action step",
+         "acase": "set step step", "spend": "number step step", "end": "", "halt": ""}
+WAYS = {"next": ("take", "done"), "ok": ("",), "sup": ("",), "ins": ("",), "acase": ("yes", "no"), "spend": ("yes", "no"), "end": (), "halt": ()}
+NODE_KINDS = [None, *NODES]  # both by their number in the file, which counts from 1
+STEP_KINDS = [None, *STEPS]
+WORD = r"[{}]|[^ \t\r{}]+"  # a brace is a word of its own
+
+
+class Node:
+    def __init__(self, number, words, line):
+        self.number, self.words, self.line, self.steps = number, words, line, []
+
+
+class Step:
+    def __init__(self, node, offset, number, words, line):
+        self.node, self.offset, self.number, self.words, self.line = node, offset, number, words, line
+
+    def targets(self):
+        """Pairs of a way's name and the offset it leads to."""
+        ways = WAYS[self.words[0]]
+        return list(zip(ways, map(int, self.words[len(self.words) - len(ways):])))
+
+
+def words_of(line):
+    """A line's words up to its remark."""
+    return re.findall(WORD, line.partition("#")[0])
+
+
+def kinds_of(words):
+    """What each word after the first stands for: action, step, node, number, or None where the form has no such word."""
+    form = iter({**NODES, **STEPS}.get(words[0], "").split())
+    kinds, inside = [], False
+    for word in words[1:]:
+        if word == "{":
+            inside = next(form, None) == "set"
+            kinds.append(None)
+        elif word == "}":
+            inside = False
+            kinds.append(None)
+        else:
+            kinds.append("action" if inside else next(form, None))
+    return kinds
+
+
+def joined(words):
+    """Words as one writes them: {1 5} with no space inside its braces."""
+    return re.sub(r"\{ ?| \}", lambda brace: brace[0].strip(), " ".join(words))
+
+
+def outline(lines):
+    """The nodes of a text with their steps; a line that is no record, or a step without a leaf, is passed over."""
+    nodes, steps = [], 0
+    for number, line in enumerate(lines, 1):
+        words = words_of(line)
+        if words and words[0] in NODES:
+            nodes.append(Node(len(nodes), words, number))
+        elif words and words[0] in STEPS and nodes:
+            node = nodes[-1]
+            node.steps.append(Step(node, len(node.steps), steps, words, number))
+            steps += 1
+    return nodes
+
+
+def counts_of(file):
+    """The kind and the step count of each node record of a policy file, as far as the file goes."""
+    records = [file[at:at + 4] for at in range(6, 6 + 16 * (file[3] if len(file) > 3 else 0), 16)]
+    return [(record[0], record[3]) for record in records if len(record) == 4]
+
+
+def kind_name(kinds, number):
+    return kinds[number] if 0 < number < len(kinds) else f"unknown kind {number}"
