@@ -1,5 +1,5 @@
 /* bench.c: one kind of call of one guard on one policy, so many times: bench GUARD CALL POLICY COUNT [ACTION]. GUARD is ours or second,
- * CALL is check, open, offer or close. Prints the answer, or, with COUNT 0, how much stack one call took. */
+ * CALL is check, open, offer, close or write, which writes the policy anew from its own records. Prints the answer, or, with COUNT 0, how much stack one call took. */
 #include "../include/fretmere.h"
 #include "../second/guard.h"
 
@@ -13,6 +13,12 @@ enum { PAINTED = 65536, PAINT = 0xA5 };
 static uint8_t policy[FRETMERE_POLICY_MOST], opened[FRETMERE_STATE_BYTES], state[FRETMERE_STATE_BYTES], events[FRETMERE_EVENT_BYTES];
 static size_t length;
 
+/* For write: the policy's own records, which stand behind its front of 6 bytes, and the output. */
+static uint8_t written[FRETMERE_POLICY_MOST];
+static const uint8_t *const nodes = policy + 6;
+static size_t nodes_length(void) { return 16u * policy[3]; }
+static size_t steps_length(void) { return length - 6 - nodes_length(); }
+
 static unsigned ours(char call, uint8_t action)
 {
     uint64_t regulated = 0, effects = 0;
@@ -24,6 +30,8 @@ static unsigned ours(char call, uint8_t action)
         return fretmere_open(policy, length, state, sizeof state, events, sizeof events) & 0xFFFFFF;
     case 'f':
         return fretmere_offer(policy, length, state, sizeof state, events, sizeof events, action) & 0xFFFFFF;
+    case 'r':
+        return fretmere_write(nodes, nodes_length(), nodes + nodes_length(), steps_length(), written, sizeof written) & 0xFFFFFF;
     default:
         return fretmere_close(policy, length, state, sizeof state, events, sizeof events) & 0xFFFFFF;
     }
@@ -40,6 +48,8 @@ static unsigned second(char call, uint8_t action)
         return answer(guard_open(policy, length, state, sizeof state, events, sizeof events));
     case 'f':
         return answer(guard_offer(policy, length, state, sizeof state, events, sizeof events, action));
+    case 'r':
+        return (unsigned)guard_write(nodes, nodes_length(), nodes + nodes_length(), steps_length(), written, sizeof written).length;
     default:
         return answer(guard_close(policy, length, state, sizeof state, events, sizeof events));
     }

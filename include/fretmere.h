@@ -1,12 +1,23 @@
-/* fretmere.h: the guard as a library for C. Link libfretmere.a, which is x86-64 code: `rt staticlib fretmere` writes it to target/staticlib/.
+/* fretmere.h: the guard as a library for C and C++. `make library` proves it and puts libfretmere.a, this header and a pkg-config file into
+ * dist/; examples/scan-loop.c shows it in a scan cycle.
  *
  * A policy file, a saved state and an event buffer are plain bytes that the caller keeps. Any bytes may be given: every call answers,
- * or refuses by number, and a refusal writes nothing.
+ * or refuses by number, and a refusal writes nothing. docs/FORMAT.md has each of them byte by byte.
  *
- * What the caller owes: each pointer points to as many bytes as its length says, and is not NULL even if the length is 0. The buffers of
- * one call do not overlap.
+ * What the caller owes. Each pointer points to as many bytes as its length says. NULL is no buffer: it stands for no default, is not
+ * looked for, and must not be given even if the length is 0. The buffers of one call do not overlap.
  *
- * No call keeps a pointer, uses the heap or calls the system. Calls on different buffers may run at the same time. */
+ * What the library needs. It is x86-64 code and uses SSE registers, which a task that calls it must be allowed to. Of the C library it calls
+ * memcpy and memset, nothing else. No call keeps a pointer, has memory of its own between calls, uses the heap or calls the system.
+ *
+ * Stack of a call, as measured on the largest and the deepest policies (docs/BENCHMARKS.md): fretmere_check 1,288 bytes, fretmere_open,
+ * fretmere_offer and fretmere_close at most 4,632, fretmere_write 8,024.
+ *
+ * Calls at the same time. The policy is only read: calls that run at once may share it. State and event buffers are written: no two
+ * calls at once may have one of these in common.
+ *
+ * The state during a call. It is working storage: a call cut short, by a power failure say, may leave it half written. So call on a
+ * copy, and keep the copy once the call has answered: what is kept is then always the state after some whole call. */
 #ifndef FRETMERE_H
 #define FRETMERE_H
 
@@ -17,6 +28,12 @@
 extern "C" {
 #endif
 
+/* The version of this header and of the library that goes with it. The number in the policy file's third byte is another: the format's. */
+#define FRETMERE_VERSION_MAJOR 1
+#define FRETMERE_VERSION_MINOR 0
+#define FRETMERE_VERSION_PATCH 0
+#define FRETMERE_VERSION "1.0.0"
+
 #define FRETMERE_POLICY_MOST 6646 /* the length of the longest file that can pass the check */
 #define FRETMERE_STATE_BYTES 256  /* a state buffer has exactly this many bytes */
 #define FRETMERE_EVENT_BYTES 512  /* an event buffer has at least this many */
@@ -24,21 +41,21 @@ extern "C" {
 /* Why a call was refused: the lowest number that applies. README.md says what to do about each. */
 enum {
     FRETMERE_NOT_REFUSED = 0,
-    FRETMERE_LENGTH = 1,       /* fewer than 6 bytes, or the length field differs from the bytes given */
-    FRETMERE_VERSION = 2,      /* the version is not 1 */
-    FRETMERE_COUNTS = 3,       /* the number of nodes or steps is out of range, or does not fit the length */
-    FRETMERE_FIELD = 4,        /* a field of a node or a step is out of range, or is not used and not zero */
-    FRETMERE_TREE = 5,         /* a child's number is wrong, or a node other than 0 is not a child exactly once */
-    FRETMERE_TARGET = 6,       /* the step counts, a target or an acase set is wrong */
-    FRETMERE_MODE = 7,         /* a step is never reached, is reached in two modes, or may not stand there */
-    FRETMERE_BRANCH = 8,       /* an acase has a branch that no possible action takes */
-    FRETMERE_INTERFERENCE = 9, /* one parallel side inserts or suppresses what the other regulates */
-    FRETMERE_SPREAD = 10,      /* a node's spread, a bound on its inserts in one call, is above 255 */
-    FRETMERE_BUFFERS = 11,     /* the state buffer is not 256 bytes, or the event buffer is under 512 */
-    FRETMERE_STATE = 12,       /* the state does not fit the policy */
-    FRETMERE_ACTION = 13,      /* the action is above 63 */
-    FRETMERE_ROOT_HALTED = 14, /* the policy has halted */
-    FRETMERE_ROOM = 15         /* the output is shorter than the file to be written */
+    FRETMERE_REFUSED_LENGTH = 1,       /* fewer than 6 bytes, or the length field differs from the bytes given */
+    FRETMERE_REFUSED_VERSION = 2,      /* the version is not 1 */
+    FRETMERE_REFUSED_COUNTS = 3,       /* the number of nodes or steps is out of range, or does not fit the length */
+    FRETMERE_REFUSED_FIELD = 4,        /* a field of a node or a step is out of range, or is not used and not zero */
+    FRETMERE_REFUSED_TREE = 5,         /* a child's number is wrong, or a node other than 0 is not a child exactly once */
+    FRETMERE_REFUSED_TARGET = 6,       /* the step counts, a target or an acase set is wrong */
+    FRETMERE_REFUSED_MODE = 7,         /* a step is never reached, is reached in two modes, or may not stand there */
+    FRETMERE_REFUSED_BRANCH = 8,       /* an acase has a branch that no possible action takes */
+    FRETMERE_REFUSED_INTERFERENCE = 9, /* one parallel side inserts or suppresses what the other regulates */
+    FRETMERE_REFUSED_SPREAD = 10,      /* a node's spread, a bound on its inserts in one call, is above 255 */
+    FRETMERE_REFUSED_BUFFERS = 11,     /* the state buffer is not 256 bytes, or the event buffer is under 512 */
+    FRETMERE_REFUSED_STATE = 12,       /* the state does not fit the policy */
+    FRETMERE_REFUSED_ACTION = 13,      /* the action is above 63 */
+    FRETMERE_REFUSED_HALTED = 14,      /* the policy has halted */
+    FRETMERE_REFUSED_ROOM = 15         /* the output is shorter than the file to be written */
 };
 
 /* The status of the root, which is node 0 and stands for the whole policy. */
@@ -68,6 +85,46 @@ static inline unsigned fretmere_leaves(fretmere_answer answer) { return answer &
 
 /* After fretmere_write, the length of the file; 0 after a refusal. */
 static inline unsigned fretmere_length(fretmere_answer answer) { return answer & 0xFFFFFFu; }
+
+/* The verdict on the offered action: FRETMERE_ACCEPTED or FRETMERE_SUPPRESSED, or 0 if there is none, because the call was refused or the
+ * policy halted before its verdict. What is not accepted does not go to the drives. `events` is the buffer that fretmere_offer wrote. */
+static inline unsigned fretmere_verdict(fretmere_answer answer, const uint8_t *events)
+{
+    unsigned i;
+    for (i = 0; i < fretmere_events(answer); i++) {
+        if (events[2 * i] != FRETMERE_INSERTED) {
+            return events[2 * i];
+        }
+    }
+    return 0;
+}
+
+/* The events of an answer, one after another:
+ *     fretmere_cursor cursor = fretmere_first(answer, events);
+ *     while (fretmere_next(&cursor)) { .. cursor.kind, cursor.action .. } */
+typedef struct {
+    const uint8_t *at;
+    unsigned left;
+    uint8_t kind, action;
+} fretmere_cursor;
+
+static inline fretmere_cursor fretmere_first(fretmere_answer answer, const uint8_t *events)
+{
+    fretmere_cursor cursor = {events, fretmere_events(answer), 0, 0};
+    return cursor;
+}
+
+static inline int fretmere_next(fretmere_cursor *cursor)
+{
+    if (cursor->left == 0) {
+        return 0;
+    }
+    cursor->kind = cursor->at[0];
+    cursor->action = cursor->at[1];
+    cursor->at += 2;
+    cursor->left--;
+    return 1;
+}
 
 /* Checks a policy file. Returns 0 and writes the root's two sets, bit a for action a: `regulated`, the actions that the policy acts on, and
  * `effects`, those that it may insert or suppress. Or returns the refusal, 1 to 10, and writes nothing. The two pointers are not NULL, and

@@ -145,7 +145,7 @@ static void small_calls(void)
     fretmere_answer answer;
 
     expect(fretmere_check(L, sizeof L, &regulated, &effects) == FRETMERE_NOT_REFUSED && regulated == 4 && effects == 0, "P1");
-    expect(fretmere_check(L, sizeof L - 1, &regulated, &effects) == FRETMERE_LENGTH, "a byte short");
+    expect(fretmere_check(L, sizeof L - 1, &regulated, &effects) == FRETMERE_REFUSED_LENGTH, "a byte short");
     answer = fretmere_open(L, sizeof L, saved, sizeof saved, room, sizeof room);
     expect(fretmere_status(answer) == FRETMERE_RUNNING && fretmere_events(answer) == 0, "P2, opening");
     expect(fretmere_running_leaves(saved, sizeof saved) == 1, "a running leaf");
@@ -153,21 +153,47 @@ static void small_calls(void)
         answer = fretmere_offer(L, sizeof L, saved, sizeof saved, room, sizeof room, (uint8_t)*a);
         expect(fretmere_status(answer) == FRETMERE_RUNNING && fretmere_events(answer) == 1, "P2, an answer");
         expect(room[0] == FRETMERE_ACCEPTED && room[1] == (uint8_t)*a, "P2, an event");
+        expect(fretmere_verdict(answer, room) == FRETMERE_ACCEPTED, "P2, a verdict");
     }
     answer = fretmere_offer(L, sizeof L, saved, sizeof saved, room, sizeof room, 2);
     expect(fretmere_status(answer) == FRETMERE_HALTED && fretmere_events(answer) == 0, "P2, the fourth 2");
+    expect(fretmere_verdict(answer, room) == 0, "P2, no verdict");
     answer = fretmere_running_leaves(saved, sizeof saved);
     expect(fretmere_refusal(answer) == FRETMERE_NOT_REFUSED && fretmere_leaves(answer) == 0, "no running leaf");
     answer = fretmere_running_leaves(saved, sizeof saved - 1);
-    expect(fretmere_refusal(answer) == FRETMERE_BUFFERS && fretmere_leaves(answer) == 0, "a state a byte short");
+    expect(fretmere_refusal(answer) == FRETMERE_REFUSED_BUFFERS && fretmere_leaves(answer) == 0, "a state a byte short");
     answer = fretmere_offer(L, sizeof L, saved, sizeof saved, room, sizeof room, 2);
-    expect(fretmere_refusal(answer) == FRETMERE_ROOT_HALTED && fretmere_events(answer) == 0, "a halted root");
+    expect(fretmere_refusal(answer) == FRETMERE_REFUSED_HALTED && fretmere_events(answer) == 0, "a halted root");
     answer = fretmere_open(L, sizeof L, saved, sizeof saved, room, sizeof room - 1);
-    expect(fretmere_refusal(answer) == FRETMERE_BUFFERS, "a short event buffer");
+    expect(fretmere_refusal(answer) == FRETMERE_REFUSED_BUFFERS, "a short event buffer");
+}
+
+/* The header's helpers, on a leaf that inserts twice before its verdict and once after it: set {0}; 0 next 1/5, 1 ins 3 to 2, 2 ins 6 to 3,
+   3 sup 4, 4 ins 9 to 0, 5 end. */
+static void helpers(void)
+{
+    static const uint8_t node[16] = {1, 0, 0, 6, 0, 0, 0, 0, 0, 0, 0, 0, 0, 0, 0, 1};
+    static const uint8_t steps[6 * 12] = {[0] = 1, [2] = 1, [3] = 5, [12] = 4, [13] = 3, [14] = 2, [24] = 4, [25] = 6, [26] = 3,
+                                          [36] = 3, [38] = 4, [48] = 4, [49] = 9, [60] = 7};
+    static const uint8_t expected[] = {FRETMERE_INSERTED, 3, FRETMERE_INSERTED, 6, FRETMERE_SUPPRESSED, 0, FRETMERE_INSERTED, 9};
+    uint8_t file[FRETMERE_POLICY_MOST], saved[FRETMERE_STATE_BYTES], room[FRETMERE_EVENT_BYTES];
+    size_t seen = 0;
+    const size_t length = fretmere_length(fretmere_write(node, sizeof node, steps, sizeof steps, file, sizeof file));
+
+    fretmere_open(file, length, saved, sizeof saved, room, sizeof room);
+    const fretmere_answer answer = fretmere_offer(file, length, saved, sizeof saved, room, sizeof room, 0);
+    fretmere_cursor cursor = fretmere_first(answer, room);
+
+    expect(fretmere_verdict(answer, room) == FRETMERE_SUPPRESSED, "the verdict behind two inserts");
+    for (; fretmere_next(&cursor); seen++) {
+        expect(seen < 4 && cursor.kind == expected[2 * seen] && cursor.action == expected[2 * seen + 1], "an event by the cursor");
+    }
+    expect(seen == 4 && !fretmere_next(&cursor), "the cursor ends with the events");
 }
 
 int main(void)
 {
+    helpers();
     small_calls();
     printf("client: the small calls and %lu of a batch as they should be\n", compare_batch());
     return 0;
