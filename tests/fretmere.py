@@ -1,0 +1,300 @@
+#!/usr/bin/env python3
+"""tests/fretmere.py: tries the command tools/fretmere, every verb on good and bad input: what it prints, on which stream, and its exit status.
+
+The programs are those of target/bin. What they do not say yet, or say only in one of two ways, is played by small scripts in their place.
+Run it as `python3 tests/fretmere.py`; the last line counts.
+"""
+import os
+import pathlib
+import re
+import shutil
+import subprocess
+import sys
+import tempfile
+
+import stored
+
+HERE = pathlib.Path(__file__).resolve().parent.parent
+sys.path.insert(0, str(HERE / "tools"))
+from desk import commands, programs  # noqa: E402: the path comes first
+from desk.names import Source  # noqa: E402
+from desk.programs import Fault  # noqa: E402
+
+ROOM = pathlib.Path(tempfile.mkdtemp())
+FAULTS, TRIED = [], 0
+NAMED = """# The reheat quota, with names.
+action reheat = 5
+action scrap  = 6     # sent away
+
+both: seq-and quota none
+
+quota: leaf {reheat} 3
+  wait:  next asked closing   # waits
+  asked: spend 1 yes no
+  yes:   ok wait
+  no:    sup away
+  away:  ins scrap wait
+  closing: end
+none: trivial
+"""
+PLAIN = """seq-and 1 2
+leaf {5} 3
+next 1 5
+spend 1 2 3
+ok 0
+sup 4
+ins 6 0
+end
+trivial
+"""
+
+
+def expect(holds, what):
+    global TRIED
+    TRIED += 1
+    if not holds:
+        FAULTS.append(what)
+
+
+def kept(name, content):
+    path = ROOM / name
+    path.write_bytes(content if isinstance(content, bytes) else content.encode())
+    return str(path)
+
+
+def fretmere(*words, given=b"", **changed):
+    """The exit status, standard output as bytes, and standard error."""
+    done = subprocess.run([sys.executable, HERE / "tools/fretmere", *words], input=given, capture_output=True, check=False,
+                          env={**os.environ, **changed}, timeout=60)
+    return done.returncode, done.stdout, done.stderr.decode()
+
+
+def fails(status, pattern, *words, **given):
+    """A failure has its exit status, its message on standard error, and nothing on standard output."""
+    got, out, err = fretmere(*words, **given)
+    expect(got == status and out == b"" and re.search(pattern, err) and "Traceback" not in err,
+           f"{' '.join(map(str, words))}: status {got}, {out[:60]!r}, {err!r}; expected {status} and {pattern}")
+
+
+def says(expected, *words, status=0, **given):
+    got, out, err = fretmere(*words, **given)
+    expect((got, out.decode(), err) == (status, expected, ""), f"{' '.join(map(str, words))}: status {got}, {out.decode()!r}, {err!r}")
+
+
+def played(**said):
+    """A folder of programs, each a script that says what it is told: (standard output, standard error, exit status)."""
+    folder = pathlib.Path(tempfile.mkdtemp(dir=ROOM))
+    scripts = {name: f"cat >/dev/null\nprintf '{out}'\nprintf '{err}' >&2\nexit {status}" for name, (out, err, status) in said.items()}
+    for name, script in {**scripts, "under-kit": 'exec "$@"'}.items():
+        (folder / name).write_text(f"#!/bin/sh\n{script}\n")
+        (folder / name).chmod(0o755)
+    return str(folder)
+
+
+def try_help():
+    status, out, err = fretmere("--help")
+    expect(status == 0 and b"verbs" in out and b"Exit status" in out and not err, "--help")
+    for verb in ("write", "text", "check", "run", "state", "draw"):
+        status, out, err = fretmere(verb, "--help")
+        expect(status == 0 and f"fretmere {verb}".encode() in out and not err, f"{verb} --help")
+    fails(2, "usage", )
+    fails(2, "invalid choice", "bogus")
+    fails(2, "required", "run", "samples/widened.text")
+    fails(2, r"guardwrite is not in .*make programs", "write", HERE / "samples/widened.text", FRETMERE_PROGRAMS=str(ROOM))
+    fails(2, "does not run here", "write", HERE / "samples/widened.text", FRETMERE_PROGRAMS=played(guardwrite=("", "cannot", 127)))
+
+
+def try_write():
+    for path in sorted((HERE / "samples").glob("*.text")):
+        status, out, err = fretmere("write", path)
+        expect((status, out, err) == (0, path.with_suffix(".policy").read_bytes(), ""), f"write {path.name}")
+    to = ROOM / "written"
+    says("", "write", kept("named.text", NAMED), "-o", to)
+    plain = fretmere("write", "-", given=PLAIN.encode())
+    expect(plain == (0, to.read_bytes(), ""), "a named source gives the file of the plain one")
+    gone = ROOM / "not-written"
+    fails(1, r"bad.text, line 2: expected next TAKE DONE\n    next 1", "write", kept("bad.text", "leaf {1} 0\n  next 1 # x\n"), "-o", gone)
+    fails(1, "refused 7: a step is never reached", "write", kept("never.text", "leaf {1} 0\nnext 1 2\nok 0\nend\nend\n"), "-o", gone)
+    expect(not gone.exists(), "a refused text leaves no file")
+    fails(1, "is no text", "write", HERE / "samples/widened.policy")
+    fails(1, "No such file", "write", ROOM / "nowhere")
+    fails(1, "nowhere/x: No such file", "write", HERE / "samples/widened.text", "-o", ROOM / "nowhere/x")
+    for said in (("line 1: end\\n", "", 0), ("", "line 1: end\\n", 1)):  # as guardwrite has it today, and as it is to have it
+        fails(1, "line 1: expected end", "write", kept("end.text", "end 1\n"), "-o", gone, FRETMERE_PROGRAMS=played(guardwrite=said))
+
+
+def try_names():
+    for path in sorted([*(HERE / "tests/texts").glob("*.text"), *(HERE / "samples").glob("*.text")]):
+        content = path.read_bytes()
+        expect(Source(path.name, content).plain == content, f"{path.name}, which has no names, is changed")
+    source = Source("named", NAMED.encode())
+    lines = source.plain.decode().split("\n")
+    expect(len(lines) == len(NAMED.split("\n")), "a line is lost")
+    expect([line.split("#")[0].split() for line in lines if line.split("#")[0].strip()] == [line.split() for line in PLAIN.splitlines()], "names replaced")
+    for text, line, what in (
+            ("action slow = 3\nleaf {slwo} 0\n", 2, "no action is named `slwo`; did you mean `slow`"),
+            ("leaf {slow} 0\naction slow = 3\n", 1, "named later, in line 2"),
+            ("action slow = 3\naction slow = 4\n", 2, "the name `slow` is taken: line 1"),
+            ("action slow = 3\naction low = 3\n", 2, "action 3 has a name: `slow`"),
+            ("action slow = 64\n", 1, "0 to 63"),
+            ("action slow 3\n", 1, "expected `action NAME = NUMBER`"),
+            ("action ok = 3\n", 1, "`ok` is a word of the text"),
+            ("leaf {1} 0\na: next b c\nb: ok a\nb: end\n", 4, "the name `b` is taken: line 3"),
+            ("leaf {1} 0\na: next b c\nb: ok a\n", 2, "no step of this leaf is named `c`"),
+            ("and a b\na: leaf {1} 0\nx: next 0 0\nb: leaf {1} 0\nnext x x\n", 5, "no step of this leaf is named `x`"),
+            ("and a b\na: trivial\n", 1, "no node is named `b`"),
+            ("again:\n", 1, "names no record")):
+        try:
+            Source("t", text.encode())
+            expect(False, f"{text!r} is taken")
+        except Fault as fault:
+            expect(f"t, line {line}: " in str(fault) and what in str(fault), f"{text!r}: {fault}")
+    same = Source("t", b"and a b\r\na: leaf {1} 0\r\nx: next y z\r\ny: ok x\r\nz: end\r\nb: leaf {2} 0\r\nx: next y z\r\ny: ok x\r\nz: end\r\n")
+    expect(same.plain.split(b"\r\n")[2].split() == [b"next", b"1", b"2"] == same.plain.split(b"\r\n")[6].split(), "labels are each leaf's own")
+
+
+def try_text():
+    policy, source = kept("named.policy", stored_file(PLAIN)), kept("named.text", NAMED)
+    status, plain, _ = fretmere("text", policy)
+    expect(status == 0 and plain.startswith(b"seq-and 1 2  # node 0\nleaf {5} 3  # node 1\n"), "text")
+    status, named, _ = fretmere("text", policy, "--source", source)
+    expect(status == 0 and b"quota: leaf {reheat} 3  # node 1\n  wait: next asked closing  # step 0\n" in named, "text with names")
+    expect(fretmere("write", "-", given=named)[1] == pathlib.Path(policy).read_bytes(), "what is shown with names means the same file")
+    fails(1, "is not the source of", "text", policy, "--source", HERE / "samples/widened.text")
+    fails(2, "--source goes with a policy file", "text", source, "--source", source)
+    fails(1, "refused 1: the file has fewer", "text", kept("short", b"\0\x05\1"))
+
+
+def stored_file(text):
+    return programs.file_of(text.encode())
+
+
+def try_check():
+    for path in sorted((HERE / "samples").glob("*.policy")):
+        status, out, _ = fretmere("check", path)
+        expect(status == 0 and out.startswith(f"{path} passes\n".encode()), f"check {path.name}")
+    for path in sorted((HERE / "tests/runs").glob("*-refused-*.input")):
+        given, said = path.read_bytes(), programs.refusal(path.with_suffix(".output").read_bytes())
+        if said:
+            fails(1, rf"is refused {said.number}: ", "check", kept("refused", given[:int.from_bytes(given[:2], "big")]))
+    fails(1, "is refused 1: ", "check", HERE / "samples/widened.input")  # more bytes than its length says
+    without = played(guardtext=("trivial  # node 0\\n", "", 0))
+    status, out, err = fretmere("check", HERE / "samples/small-trivial.policy", FRETMERE_PROGRAMS=without)
+    expect(status == 0 and out.endswith(b"passes\n") and "guardcheck is not built" in err, "check without guardcheck")
+    sets = played(guardcheck=("regulates {1 4}\\neffects {3}\\nspread 2\\n", "", 0))
+    path = HERE / "samples/small-trivial.policy"
+    says(f"{path} passes\nregulates: {{1, 4}}\neffects: {{3}}\nspread: 2\n", "check", path, FRETMERE_PROGRAMS=sets)
+    none = played(guardcheck=("regulates {}\\neffects {}\\nspread 0\\n", "", 0))
+    says(f"{path} passes\nregulates: {{}}\neffects: {{}}\nspread: 0\n", "check", path, FRETMERE_PROGRAMS=none)
+
+
+def try_places():
+    """Refusals with a place, as request 03 has them, in a text and in a file: one node, one leaf of 3 steps, one of 2."""
+    text = kept("places.text", "and 1 2\n# a remark\nleaf {1} 0\nnext 1 2\nok 0\nend\nleaf {2} 0\nnext 1 1\nend\n")
+    file = kept("places.policy", stored.as_bytes(
+        [stored.bare("parallel and", 1, 2), dict(stored.bare("leaf"), count=3), dict(stored.bare("leaf"), count=2)],
+        [{"kind": kind, "action": 0, "first": 0, "second": 0, "operand": 0} for kind in (1, 2, 7, 1, 9)]))
+    for said, in_text, in_file in (
+            ("refused 9 at 0", "line 1: node 0, `and 1 2`", "node 0, and"),
+            ("refused 5 at 2", "line 7: node 2, `leaf", "node 2, leaf"),
+            ("refused 4 at 1", "line 3: node 1, `leaf", "node 1, leaf"),
+            ("refused 4 at 3", "line 4: step 0 of leaf 1, `next 1 2`", r"step 0 of leaf 1, next \(step 0 of the file\)"),
+            ("refused 7 at 3", "line 8: step 0 of leaf 2, `next 1 1`", r"step 0 of leaf 2, next \(step 3 of the file\)"),
+            ("refused 8 at 4", "line 9: step 1 of leaf 2, `end`", "step 1 of leaf 2, unknown kind 9"),
+            ("refused 6 at 0", "line 4: step 0 of leaf 1", "step counts of the leaves do not add up"),
+            ("refused 10 at 0", "line 1: node 0", "node 0, and"),
+            ("refused 6 at 99", "place 99", "step 99 of the file, outside the file")):
+        number = said.split()[1]
+        fails(1, rf"refused {number}: .*\n.*{in_text}", "check", text, FRETMERE_PROGRAMS=played(guardwrite=(said + "\\n", "", 0)))
+        fails(1, rf"refused {number}: .*\n.*{in_file}", "check", file, FRETMERE_PROGRAMS=played(guardcheck=(said + "\\n", "", 0)))
+
+
+def ran(given):
+    """guardrun on a stored input, with markers, taken apart."""
+    length = int.from_bytes(given[:2], "big")
+    offered = list(given[length:])
+    return commands.Run(programs.lines_of("guardrun", given[:length] + commands.marked(offered)), offered), offered
+
+
+def try_run_parts():
+    """Which command each event belongs to: for the samples as their descriptions have it by hand, and nothing lost in any stored run."""
+    for sample in stored.SAMPLES:
+        run, _ = ran((HERE / f"samples/{sample['name']}.input").read_bytes())
+        expect(run.given == [stored.listed(printed) for _, printed, _ in sample["run"]], f"{sample['name']}: {run.given}")
+        expect(run.opening == stored.listed(sample["opens"][1]) and run.closing == stored.listed(sample["closes"][1]), f"{sample['name']}: ends")
+    for path in sorted((HERE / "tests/runs").glob("*.input")):
+        whole = path.with_suffix(".output").read_text().splitlines()
+        if not whole[0].startswith("refused"):
+            run, _ = ran(path.read_bytes())
+            lines = [f"open {run.opened}", *run.opening, *(line for own in run.given for line in own), *run.closing, f"close {run.closed}"]
+            expect(lines == whole, f"{path.name}: {lines}")
+    run, _ = ran((HERE / "tests/runs/61-halt-on-insert-or.input").read_bytes())
+    expect((run.given, run.halted) == ([["ins 3", "acc 0"], ["acc 3"], ["ins 3", "acc 0"], []], True), "inserts before the verdict")
+    run, _ = ran((HERE / "tests/runs/58-halt-with-events.input").read_bytes())
+    expect((run.given[2], run.halted) == (["ins 23", "ins 27"], True), "a halt with events and no verdict")
+
+
+def try_run():
+    policy, source = kept("named.policy", stored_file(PLAIN)), kept("named.text", NAMED)
+    offered = "reheat 5 reheat # three\n\nreheat\n7 200\n"
+    named = ("opening: running\n1. reheat (5): accepted\n2. reheat (5): accepted\n3. reheat (5): accepted\n"
+             "4. reheat (5): suppressed; inserted scrap (6)\n5. 7: accepted\n6. 200: refused 13, the command is above 63\nclosing: ended\n")
+    says(named, "run", source, "-", given=offered.encode(), status=1)
+    says(named, "run", policy, "-", "--source", source, given=offered.encode(), status=1)
+    says("opening: running\nclosing: ended\n", "run", policy, kept("none", "# no command\n"))
+    says("opening: running\n1. 10: accepted\n2. 12: accepted\n3. 12: HALTED by this command\ncommand 4: not read, for the policy has halted\nclosing: halted\n",
+         "run", HERE / "samples/memory-limit.policy", "-", given=b"10 12\n12\n40")
+    fails(1, "line 2: no action is named `reheta`", "run", source, "-", given=b"reheat\nreheta\n")
+    fails(1, "no source names actions", "run", policy, "-", given=b"reheat\n")
+    fails(1, "above 255", "run", policy, "-", given=b"256\n")
+    fails(2, "cannot both", "run", "-", "-")
+    for cut in (stored_file(PLAIN)[:-1], stored_file(PLAIN) + b"\5"):  # neither may a command complete the file, nor its last byte be one
+        fails(1, "is refused 1: ", "run", kept("cut", cut), "-", given=b"0 5\n")
+
+
+def try_state():
+    policy = HERE / "samples/small-parallel-or.policy"
+    records = bytes([1, 0, 0, 0, 0, 0, 0, 0, 1, 0, 0, 0, 0, 0, 0, 2, 5, 0, 0, 0, 0, 0, 0, 0])
+    told = ("node 0, or: running\nnode 1, leaf: running\n    waits at step 0: next 1 4\n    counter 2 of 3\nnode 2, leaf: halted\n"
+            "Whether the state fits the policy is not judged here. The guard judges it at each call, and refuses by 12 if it does not fit.\n")
+    says("running leaves: 1\n" + told, "state", policy, kept("256", (bytes(7) + b"\1" + records).ljust(256, b"\0")))
+    says("running leaves: not kept in a state of 248 bytes\n" + told, "state", policy, kept("248", records.ljust(248, b"\0")))
+    odd = bytes(8) + bytes([9, 0, 0, 0, 0, 0, 0, 0, 1, 77])
+    status, out, _ = fretmere("state", policy, kept("odd", odd.ljust(256, b"\0")))
+    expect(status == 0 and b"status 9, which is none" in out and b"step 77, which the leaf does not have" in out, "an odd state is shown as it is")
+    fails(1, "the state has 255 bytes", "state", policy, kept("255", bytes(255)))
+    named = bytes(8 + 8) + bytes([1, 0, 0, 0, 0, 0, 0, 1])
+    status, out, _ = fretmere("state", kept("named.text", NAMED), kept("named.state", named.ljust(256, b"\0")))
+    expect(b"node 1 quota, leaf: running\n    waits at step 0 (wait): next asked closing\n    counter 1 of 3" in out, "a state with names")
+
+
+def try_draw():
+    fails(2, "draw needs the program `dot` of Graphviz", "draw", HERE / "samples/widened.text", PATH=str(ROOM))
+    if shutil.which("dot") is None:
+        return
+    for sample in stored.SAMPLES:
+        status, out, err = fretmere("draw", HERE / f"samples/{sample['name']}.policy")
+        expect((status, err) == (0, "") and b"</svg>" in out and out.count(b'class="cluster"') == sum(n["kind"] == 1 for n in stored.lay_out(sample["policy"])[0]),
+               f"draw {sample['name']}")
+    to = ROOM / "picture.svg"
+    says("", "draw", kept("named.text", NAMED), "-o", to)
+    shown = to.read_text()
+    expect(all(word in shown for word in ("quota", "asked", "ins scrap", "take", "done", "yes", "counter from 3")), "a picture with names")
+    fails(1, "is refused 1", "draw", kept("short", b"\0\5\1"))
+
+
+def try_version():
+    header = (HERE / "include/fretmere.h").read_text()
+    parts = [re.search(rf"FRETMERE_VERSION_{part} (\d+)", header)[1] for part in ("MAJOR", "MINOR", "PATCH")]
+    expect(f'FRETMERE_VERSION "{".".join(parts)}"' in header, "the header's version and its parts")
+
+
+if __name__ == "__main__":
+    for attempt in (try_help, try_write, try_names, try_text, try_check, try_places, try_run_parts, try_run, try_state, try_draw, try_version):
+        attempt()
+    shutil.rmtree(ROOM)
+    for fault in FAULTS:
+        print(f"differs: {fault}")
+    pictures = "" if shutil.which("dot") else "; no picture, for there is no dot"
+    print(f"fretmere: {TRIED} tries, {len(FAULTS)} differ{pictures}")
+    sys.exit(1 if FAULTS else 0)
