@@ -44,7 +44,7 @@ def bits(text):
 
 
 def members(number):
-    return "{" + ", ".join(str(a) for a in range(64) if number >> a & 1) + "}"
+    return "{" + " ".join(str(a) for a in range(64) if number >> a & 1) + "}"
 
 
 def read_step(text, offset):
@@ -57,14 +57,6 @@ def read_step(text, offset):
     for field, value in zip(fields, values.groups()):
         step["operand" if field == "set" else field] = bits(value) if field == "set" else int(value)
     return step
-
-
-def write_step(step, offset):
-    name = {number: name for name, number in STEP_KINDS.items()}[step["kind"]]
-    form = {"next": "{first}/{second}", "ok": "{first}", "sup": "{first}",
-            "ins": "{action} to {first}", "acase": "{set} {first}/{second}",
-            "spend": "{operand} {first}/{second}", "end": "", "halt": ""}[name]
-    return f"{offset} {name} {form.format(set=members(step['operand']), **step)}".rstrip()
 
 
 def bare(kind, left=0, right=0):
@@ -90,63 +82,51 @@ def read_leaf(text):
 
 
 def lay_out(policy):
-    """Nodes, steps and the lines of text of a policy, one record a line."""
-    nodes, steps, lines = [], [], []
+    """Nodes and steps of a policy, and for each node its name and its remarks: on itself, then on each of its steps."""
+    nodes, steps, notes = [], [], []
 
     def place(part):
         number = len(nodes)
         if part in (TRIVIAL, UNSATISFIABLE):
             nodes.append(bare(part))
-            lines.append((f"node {number}: {part}.", ""))
+            notes.append(("", [""]))
         elif isinstance(part, str):
             node, own, name, remarks = read_leaf(part)
             nodes.append(node)
             steps.extend(own)
-            counter = f", counter {node['counter']}" if node["counter"] else ""
-            label = f"node {number}, {name}:" if name else f"node {number}:"
-            lines.append((f"{label} set {members(node['set'])}{counter};", remarks[0]))
-            for offset, step in enumerate(own):
-                stop = "." if offset == len(own) - 1 else ","
-                lines.append((f"  {write_step(step, offset)}{stop}", remarks[1 + offset]))
+            notes.append((name, remarks))
         else:
             kind, left, right = part
             nodes.append(bare(kind))
-            lines.append(None)
-            mine = len(lines) - 1
+            notes.append(("", [""]))
             nodes[number]["left"] = place(left)
             nodes[number]["right"] = place(right)
-            lines[mine] = (f"node {number}: {kind}, left {nodes[number]['left']}, "
-                           f"right {nodes[number]['right']}.", "")
         return number
 
     place(policy)
-    return nodes, steps, lines
+    return nodes, steps, notes
 
 
 def as_source(policy):
     """The policy as the text that guardwrite reads: a record a line; a remark says its number and what it is for."""
-    nodes, steps, lines = lay_out(policy)
+    nodes, steps, notes = lay_out(policy)
     words = {number: name for name, number in STEP_KINDS.items()}
     kinds = {2: "trivial", 3: "unsatisfiable", 4: "and", 5: "seq-and", 6: "or", 7: "seq-or"}
     forms = {"next": "{first} {second}", "ok": "{first}", "sup": "{first}", "ins": "{action} {first}",
              "acase": "{set} {first} {second}", "spend": "{operand} {first} {second}", "end": "", "halt": ""}
-    rows, at, own = [], 0, iter(steps)
-    for number, node in enumerate(nodes):
-        label, remark = lines[at]
-        name = re.match(r"node \d+, ([\w' ]+):", label)
-        said = ", ".join([f"node {number}"] + ([name[1]] if name else []) + ([remark] if remark else []))
+    rows, own = [], iter(steps)
+    for number, (node, (name, remarks)) in enumerate(zip(nodes, notes)):
+        said = ", ".join(part for part in (f"node {number}", name, remarks[0]) if part)
         if node["kind"] == NODE_KINDS["leaf"]:
-            rows.append((f"leaf {members(node['set']).replace(',', '')} {node['counter']}", said))
+            rows.append((f"leaf {members(node['set'])} {node['counter']}", said))
         elif node["left"]:
             rows.append((f"{kinds[node['kind']]} {node['left']} {node['right']}", said))
         else:
             rows.append((kinds[node["kind"]], said))
-        for offset in range(node["count"]):
+        for offset, remark in enumerate(remarks[1:]):
             step = next(own)
-            form = forms[words[step["kind"]]].format(set=members(step["operand"]).replace(",", ""), **step)
-            remark = lines[at + 1 + offset][1]
+            form = forms[words[step["kind"]]].format(set=members(step["operand"]), **step)
             rows.append((f"  {words[step['kind']]} {form}".rstrip(), f"{offset}: {remark}" if remark else str(offset)))
-        at += 1 + node["count"]
     width = max(len(code) for code, _ in rows)
     return "".join(f"{code:<{width}}  # {remark}\n" for code, remark in rows)
 
@@ -438,7 +418,7 @@ than is left halts the program. (002 compares strictly, `(q-n) > 0`, and never h
 
 sample("file-access", """
 002's second example, fileAccess, for two files by name in place of arguments and a list. Each file
-has a leaf of its own that knows whether it is open, and a parallel "and" joins them. As in 002, closing
+has a leaf of its own that knows whether it is open, and `and` joins them. As in 002, closing
 a file that isn't open is a small error and is held back. Opening a file that the list doesn't
 allow closes the open files and halts. At the end the files left open are closed. Reading and
 writing are added, and a second open of an open file is held back.
@@ -455,7 +435,7 @@ writing are added, and a second open of an open file is held back.
 ], closes=("ended", "ins 23, ins 27", "both files were left open and are closed, left side first"))
 
 sample("resource-manager", """
-002's RM = fileAccess and memLimit, in parallel (its strictRM is the same thing). Neither side inserts or suppresses
+002's RM: file access and the memory limit under `and` (its strictRM is the same thing). Neither side inserts or suppresses
 what the other regulates, so they pass the check side by side. If either halts, the whole halts.
 """, {10: "malloc, 1 unit", 11: "malloc, 4 units", 12: "malloc, 16 units", 20: "open A",
       21: "read A", 22: "write A", 23: "close A", 28: "open a file outside the list"},
@@ -483,7 +463,7 @@ ended from the start and accepts everything, so that what is left is the file po
 ], closes=("ended", "ins 23", "A was left open and is closed; now both sides have ended"))
 
 sample("widened", """
-002's widenedPol = untrustedPol or authenticatedPol. Without a login only reading is allowed. A program
+002's widenedPol: untrusted and authenticated under `or`. Without a login only reading is allowed. A program
 that logs in before anything else may write too. A side that halts alone is passed over.
 """, {40: "log in", 41: "read", 42: "write"},
        ("parallel or", UNTRUSTED, AUTHENTICATED), [
@@ -494,7 +474,7 @@ that logs in before anything else may write too. A side that halts alone is pass
 ], closes=("right", "", "the right side has ended"))
 
 sample("chinese-wall", """
-002's ChineseWall: only A or only B, in parallel. The first action on a company makes the side of the other
+002's ChineseWall: only A, only B, under `or`. The first action on a company makes the side of the other
 one halt. From then on an action on the other company halts the side that is left, and with it the whole.
 """, {30: "read company A's books", 31: "advise A", 32: "read company B's books", 33: "advise B",
       7: "anything else"},
@@ -520,8 +500,8 @@ and the run goes on. The choice is kept by the step at which the leaf waits.
 ])
 
 sample("file-log", """
-002's logging example. In parallel with the log, file access is refused with 9 (see tests/runs/): it inserts closes,
-which the log regulates and would miss. In series it works: the log stands on the right and sees all that comes
+002's logging example. Under `and` with the log, file access is refused with 9 (see tests/runs/): it inserts closes,
+which the log regulates and would miss. Under `seq-and` it works: the log stands on the right and sees all that comes
 out of the file policy, including the closes that it inserts.
 """, {20: "open A", 21: "read A", 22: "write A", 23: "close A",
       28: "open a file outside the list", 29: "write a log line"},
@@ -555,7 +535,7 @@ sample("brazing-furnace", """
 A furnace that brazes radiators on a belt. Soak: while a load is owed its soak, a belt slowdown is held back and
 kept in mind; once the soak is done, the guard gives the command itself. Reheats: three are allowed in a run, for a
 counter is never filled up again. A fourth is held back, and the load is sent to scrap. These two touch
-different commands and stand in parallel. Drive stands in series after both, because it has to see every slowdown that goes
+different commands and stand under `and`. Drive stands to their right in a `seq-and`, because it has to see every slowdown that goes
 out, including the guard's own. It lets the burners follow the belt, and holds back a speed command that changes nothing.
 """, {1: "load in, soak owed", 2: "soak done", 3: "slow belt", 4: "full speed", 5: "reheat",
       6: "load to scrap", 7: "call the operator", 8: "burners down", 9: "burners up",
@@ -605,7 +585,7 @@ Once E has ended, the whole has ended right and accepts everything.
 ], closes=("right", "", "closing a decided root gives no events"))
 
 sample("small-sequential-and", """
-01's W before V (P7). W holds back every 3 of the program, but stands on the left: the 3 that V inserts
+01's W on the left and V on the right of a `seq-and` (P7). W holds back every 3 of the program, but stands on the left: the 3 that V inserts
 goes out behind it. The other way round (tests/runs/01-example.input) W holds back V's 3 too.
 """, {4: "V's action", 3: "what V inserts and W holds back"},
        ("sequential and", W, V), [
@@ -615,8 +595,8 @@ goes out behind it. The other way round (tests/runs/01-example.input) W holds ba
 ], closes=("ended", "ins 3", "W ends, then V inserts 3 and ends"))
 
 sample("small-sequential-or", """
-V before a leaf X that halts at any 3. X halts at V's 3, alone: in an "or" the 3 goes out all the same, and from
-then on X is passed over. In an "and" the run would halt there and the 3 would not go out.
+V to the left of a leaf X that halts at any 3. X halts at V's 3, alone: in a `seq-or` the 3 goes out all the same, and from
+then on X is passed over. In a `seq-and` the run would halt there and the 3 would not go out.
 """, {4: "V's action", 3: "what V inserts; X halts at it"},
        ("sequential or", V, NO_THREE), [
     (4, "sup 4, ins 3", "X halts at the 3, which goes out"),
@@ -635,7 +615,7 @@ and the run goes on.
 ], opens=("ended", ""))
 
 sample("small-unsatisfiable", """
-01's L or the unsatisfiable policy (P8). Unsatisfiable has halted from the start, and in an "or" a lone halted side
+01's L and the unsatisfiable policy under `or` (P8). Unsatisfiable has halted from the start, and in an `or` a lone halted side
 is passed over. So this acts as L does: the fourth 2 halts. (Unsatisfiable alone opens halted: see tests/runs/.)
 """, {1: "not regulated", 2: "L's action, three allowed"},
        ("parallel or", L, UNSATISFIABLE), [
@@ -1042,9 +1022,11 @@ Each sample has four files:
 - `NAME.input` is what `guardrun` reads: the policy file, then the actions, one byte each.
 - `NAME.output` is what `guardrun` prints. `make sample SAMPLE=NAME` prints the same.
 
+To try other actions on a sample: `echo "3 4 5" | tools/fretmere run samples/NAME.text -`. To see it as a picture: `tools/fretmere draw samples/NAME.text -o NAME.svg`.
+
 The first nine samples follow the examples of document 002, the report on the policy calculus, as far as actions without arguments allow.
 Its genericRM is a function over policies and is left out. "01" is the user's paper on scope and rules, which has the small policies L, V,
-V' and W. "Held back" means suppressed.
+V' and W. "Held back" means suppressed. Operators are named as in the text: `and`, `or`, `seq-and`, `seq-or`.
 
 All files here are made by `tests/stored.py`. To compare a guardrun with them, run `python3 tests/stored.py check PROGRAM`."""]
     out.append("\n| Sample | Nodes | Steps | Bytes | Opens | Closes |\n|---|---|---|---|---|---|")
