@@ -5,8 +5,7 @@ COUNT = 20000
 PREFIX = /usr/local
 DESTDIR =
 
-# guardcheck is built as soon as there is such a crate.
-PROGRAMS = guardrun guardwrite guardtext $(notdir $(wildcard crates/guardcheck))
+PROGRAMS = guardrun guardwrite guardtext
 VERSION = $(shell sed -n 's/.*FRETMERE_VERSION "\(.*\)"/\1/p' include/fretmere.h)
 UNDER = $(DESTDIR)$(PREFIX)
 

@@ -1,7 +1,7 @@
 #!/usr/bin/env python3
 """tests/fretmere.py: tries the command tools/fretmere, every verb on good and bad input: what it prints, on which stream, and its exit status.
 
-The programs are those of target/bin. What they do not say yet, or say only in one of two ways, is played by small scripts in their place.
+The programs are those of target/bin. What they do not do on this machine, to fail to start, is played by a small script in one's place.
 Run it as `python3 tests/fretmere.py`; the last line counts.
 """
 import os
@@ -119,8 +119,7 @@ def try_write():
     fails(1, "is no text", "write", HERE / "samples/widened.policy")
     fails(1, "No such file", "write", ROOM / "nowhere")
     fails(1, "nowhere/x: No such file", "write", HERE / "samples/widened.text", "-o", ROOM / "nowhere/x")
-    for said in (("line 1: end\\n", "", 0), ("", "line 1: end\\n", 1)):  # as guardwrite has it today, and as it is to have it
-        fails(1, "line 1: expected end", "write", kept("end.text", "end 1\n"), "-o", gone, FRETMERE_PROGRAMS=played(guardwrite=said))
+    fails(1, "line 1: expected end", "write", kept("end.text", "end 1\n"), "-o", gone)
 
 
 def try_names():
@@ -178,35 +177,6 @@ def try_check():
         if said:
             fails(1, rf"is refused {said.number}: ", "check", kept("refused", given[:int.from_bytes(given[:2], "big")]))
     fails(1, "is refused 1: ", "check", HERE / "samples/widened.input")  # more bytes than its length says
-    without = played(guardtext=("trivial  # node 0\\n", "", 0))
-    status, out, err = fretmere("check", HERE / "samples/small-trivial.policy", FRETMERE_PROGRAMS=without)
-    expect(status == 0 and out.endswith(b"passes\n") and "guardcheck is not built" in err, "check without guardcheck")
-    sets = played(guardcheck=("regulates {1 4}\\neffects {3}\\nspread 2\\n", "", 0))
-    path = HERE / "samples/small-trivial.policy"
-    says(f"{path} passes\nregulates: {{1, 4}}\neffects: {{3}}\nspread: 2\n", "check", path, FRETMERE_PROGRAMS=sets)
-    none = played(guardcheck=("regulates {}\\neffects {}\\nspread 0\\n", "", 0))
-    says(f"{path} passes\nregulates: {{}}\neffects: {{}}\nspread: 0\n", "check", path, FRETMERE_PROGRAMS=none)
-
-
-def try_places():
-    """Refusals with a place, as request 03 has them, in a text and in a file: one node, one leaf of 3 steps, one of 2."""
-    text = kept("places.text", "and 1 2\n# a remark\nleaf {1} 0\nnext 1 2\nok 0\nend\nleaf {2} 0\nnext 1 1\nend\n")
-    file = kept("places.policy", stored.as_bytes(
-        [stored.bare("parallel and", 1, 2), dict(stored.bare("leaf"), count=3), dict(stored.bare("leaf"), count=2)],
-        [{"kind": kind, "action": 0, "first": 0, "second": 0, "operand": 0} for kind in (1, 2, 7, 1, 9)]))
-    for said, in_text, in_file in (
-            ("refused 9 at 0", "line 1: node 0, `and 1 2`", "node 0, and"),
-            ("refused 5 at 2", "line 7: node 2, `leaf", "node 2, leaf"),
-            ("refused 4 at 1", "line 3: node 1, `leaf", "node 1, leaf"),
-            ("refused 4 at 3", "line 4: step 0 of leaf 1, `next 1 2`", r"step 0 of leaf 1, next \(step 0 of the file\)"),
-            ("refused 7 at 3", "line 8: step 0 of leaf 2, `next 1 1`", r"step 0 of leaf 2, next \(step 3 of the file\)"),
-            ("refused 8 at 4", "line 9: step 1 of leaf 2, `end`", "step 1 of leaf 2, unknown kind 9"),
-            ("refused 6 at 0", "line 4: step 0 of leaf 1", "step counts of the leaves do not add up"),
-            ("refused 10 at 0", "line 1: node 0", "node 0, and"),
-            ("refused 6 at 99", "place 99", "step 99 of the file, outside the file")):
-        number = said.split()[1]
-        fails(1, rf"refused {number}: .*\n.*{in_text}", "check", text, FRETMERE_PROGRAMS=played(guardwrite=(said + "\\n", "", 0)))
-        fails(1, rf"refused {number}: .*\n.*{in_file}", "check", file, FRETMERE_PROGRAMS=played(guardcheck=(said + "\\n", "", 0)))
 
 
 def ran(given):
@@ -258,7 +228,6 @@ def try_state():
     told = ("node 0, or: running\nnode 1, leaf: running\n    waits at step 0: next 1 4\n    counter 2 of 3\nnode 2, leaf: halted\n"
             "Whether the state fits the policy is not judged here. The guard judges it at each call, and refuses by 12 if it does not fit.\n")
     says("running leaves: 1\n" + told, "state", policy, kept("256", (bytes(7) + b"\1" + records).ljust(256, b"\0")))
-    says("running leaves: not kept in a state of 248 bytes\n" + told, "state", policy, kept("248", records.ljust(248, b"\0")))
     odd = bytes(8) + bytes([9, 0, 0, 0, 0, 0, 0, 0, 1, 77])
     status, out, _ = fretmere("state", policy, kept("odd", odd.ljust(256, b"\0")))
     expect(status == 0 and b"status 9, which is none" in out and b"step 77, which the leaf does not have" in out, "an odd state is shown as it is")
@@ -290,7 +259,7 @@ def try_version():
 
 
 if __name__ == "__main__":
-    for attempt in (try_help, try_write, try_names, try_text, try_check, try_places, try_run_parts, try_run, try_state, try_draw, try_version):
+    for attempt in (try_help, try_write, try_names, try_text, try_check, try_run_parts, try_run, try_state, try_draw, try_version):
         attempt()
     shutil.rmtree(ROOM)
     for fault in FAULTS:

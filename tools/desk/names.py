@@ -78,9 +78,7 @@ class Source:
             lines.append(Line(number, written, lines[-1] if lines else None))
         for line in lines:
             self._define(line)
-        plain = [self._plain(line) for line in lines]
-        self.plain = "\n".join(plain).encode("latin-1")
-        self.outline = records.outline(plain)
+        self.plain = "\n".join(self._plain(line) for line in lines).encode("latin-1")
 
     def line(self, number):
         """A line as it is shown, without its remark."""

@@ -59,7 +59,7 @@ class Policy:
         try:
             return programs.lines_of(program, self.file + given)
         except Refused as refused:
-            raise Fault(f"{self.title} is {explained(refused, self.file, self.source)}") from refused
+            raise Fault(f"{self.title} is {explained(refused)}") from refused
 
     def text(self):
         """The policy's text. guardtext reads all that it is given as the file, so that a file with a byte too many or too few is refused
@@ -77,49 +77,9 @@ def file_of(source):
     except BadLine as bad:
         source.fault(bad.line, f"expected {bad.expected}")
     except Refused as refused:
-        raise Fault(f"{source.title} is {explained(refused, None, source)}") from refused
+        raise Fault(f"{source.title} is {explained(refused)}") from refused
 
 
-def explained(refused, file, source):
-    """A refusal in words, with the record that it is about where the program says its place."""
-    said = f"refused {refused.number}: {REASONS.get(refused.number, 'see the table of refusals in README.md')}"
-    if refused.place is None:
-        return said
-    where = place_in_source(refused, source) if source else place_in_file(refused, file)
-    return f"{said}\n    {where}"
-
-
-def split(refused, nodes):
-    """A place as (node, None) or (None, step): rule 4 counts nodes first, 6 to 8 speak of steps, the others of nodes."""
-    if refused.number == 4:
-        return (refused.place, None) if refused.place < nodes else (None, refused.place - nodes)
-    return (None, refused.place) if refused.number in (6, 7, 8) else (refused.place, None)
-
-
-def place_in_source(refused, source):
-    node, step = split(refused, len(source.outline))
-    steps = [own for leaf in source.outline for own in leaf.steps]
-    if node is not None and node < len(source.outline):
-        record, named = source.outline[node], f"node {node}"
-    elif step is not None and step < len(steps):
-        record, named = steps[step], f"step {steps[step].offset} of leaf {steps[step].node.number}"
-    else:
-        return f"place {refused.place}"
-    return f"{source.title}, line {record.line}: {named}, `{source.line(record.line)}`"
-
-
-def place_in_file(refused, file):
-    nodes = records.counts_of(file)
-    node, step = split(refused, len(nodes))
-    if node is not None:
-        return f"node {node}, {records.kind_name(records.NODE_KINDS, nodes[node][0])}" if node < len(nodes) else f"node {node}"
-    if refused.number == 6 and step == 0:
-        return "step 0 of the first leaf; or the step counts of the leaves do not add up to the file's number of steps"
-    at = 6 + 16 * len(nodes) + 12 * step
-    kind = records.kind_name(records.STEP_KINDS, file[at]) if at < len(file) else "outside the file"
-    offset = step
-    for number, (node_kind, count) in enumerate(nodes):
-        if node_kind == 1 and offset < count:
-            return f"step {offset} of leaf {number}, {kind} (step {step} of the file)"
-        offset -= count if node_kind == 1 else 0
-    return f"step {step} of the file, {kind}, which no leaf has"
+def explained(refused):
+    """A refusal in words."""
+    return f"refused {refused.number}: {REASONS.get(refused.number, 'see the table of refusals in README.md')}"

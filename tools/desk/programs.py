@@ -17,11 +17,11 @@ class Fault(Exception):
 
 
 class Refused(Exception):
-    """A program refused the policy: the rule's number and, where the program says it, the place."""
+    """A program refused the policy: the rule's number."""
 
-    def __init__(self, number, place=None):
-        super().__init__(number, place)
-        self.number, self.place = number, place
+    def __init__(self, number):
+        super().__init__(number)
+        self.number = number
 
 
 class BadLine(Exception):
@@ -51,24 +51,22 @@ def started(path):
 
 
 def said_by(name, given):
-    """What the program prints, as bytes. A refusal may come on either stream: guardwrite has used both."""
+    """What the program prints, as bytes."""
     path = found(name)
     if path is None:
         looked = " or ".join(str(folder) for folder in folders())
         raise Fault(f"the program {name} is not in {looked}. `make programs` builds it; FRETMERE_PROGRAMS names another folder", 2)
     done = subprocess.run(started(path), input=given, capture_output=True, check=False)
-    said = done.stdout or done.stderr
-    if not said or done.returncode != 0 and not re.match(rb"(line|refused) ", said):
-        raise Fault(f"{name} does not run here (exit status {done.returncode}): {said.decode(errors='replace').strip()}", 2)
-    return said
+    if not done.stdout or done.returncode != 0:
+        why = (done.stdout or done.stderr).decode(errors="replace").strip()
+        raise Fault(f"{name} does not run here (exit status {done.returncode}): {why}", 2)
+    return done.stdout
 
 
 def refusal(said):
-    """The refusal that a program's first line says, `refused N` or `refused N at P`, or None."""
-    found_line = re.match(rb"refused (\d+)(?: at (\d+))?\r?(?:\n|$)", said)
-    if not found_line:
-        return None
-    return Refused(int(found_line[1]), int(found_line[2]) if found_line[2] else None)
+    """The refusal that a program's first line says, `refused N`, or None."""
+    found_line = re.match(rb"refused (\d+)\r?(?:\n|$)", said)
+    return Refused(int(found_line[1])) if found_line else None
 
 
 def lines_of(name, given):

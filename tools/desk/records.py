@@ -6,19 +6,17 @@ NODES = {"leaf": "set number", "trivial": "", "unsatisfiable": "",
 STEPS = {"next": "step step", "ok": "step", "sup": "step", "ins": "action step",
          "acase": "set step step", "spend": "number step step", "end": "", "halt": ""}
 WAYS = {"next": ("take", "done"), "ok": ("",), "sup": ("",), "ins": ("",), "acase": ("yes", "no"), "spend": ("yes", "no"), "end": (), "halt": ()}
-NODE_KINDS = [None, *NODES]  # both by their number in the file, which counts from 1
-STEP_KINDS = [None, *STEPS]
 WORD = r"[{}]|[^ \t\r{}]+"  # a brace is a word of its own
 
 
 class Node:
-    def __init__(self, number, words, line):
-        self.number, self.words, self.line, self.steps = number, words, line, []
+    def __init__(self, number, words):
+        self.number, self.words, self.steps = number, words, []
 
 
 class Step:
-    def __init__(self, node, offset, number, words, line):
-        self.node, self.offset, self.number, self.words, self.line = node, offset, number, words, line
+    def __init__(self, node, offset, words):
+        self.node, self.offset, self.words = node, offset, words
 
     def targets(self):
         """Pairs of a way's name and the offset it leads to."""
@@ -54,23 +52,11 @@ def joined(words):
 
 def outline(lines):
     """The nodes of a text with their steps; a line that is no record, or a step without a leaf, is passed over."""
-    nodes, steps = [], 0
-    for number, line in enumerate(lines, 1):
+    nodes = []
+    for line in lines:
         words = words_of(line)
         if words and words[0] in NODES:
-            nodes.append(Node(len(nodes), words, number))
+            nodes.append(Node(len(nodes), words))
         elif words and words[0] in STEPS and nodes:
-            node = nodes[-1]
-            node.steps.append(Step(node, len(node.steps), steps, words, number))
-            steps += 1
+            nodes[-1].steps.append(Step(nodes[-1], len(nodes[-1].steps), words))
     return nodes
-
-
-def counts_of(file):
-    """The kind and the step count of each node record of a policy file, as far as the file goes."""
-    records = [file[at:at + 4] for at in range(6, 6 + 16 * (file[3] if len(file) > 3 else 0), 16)]
-    return [(record[0], record[3]) for record in records if len(record) == 4]
-
-
-def kind_name(kinds, number):
-    return kinds[number] if 0 < number < len(kinds) else f"unknown kind {number}"

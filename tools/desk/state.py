@@ -2,17 +2,15 @@
 from .programs import Fault
 
 STATUSES = {1: "running", 2: "ended", 3: "ended left", 4: "ended right", 5: "halted", 6: "dropped"}
-FRONT, RECORD = 8, 8
-FULL, OLD = 256, 248  # an older guard's state has no front, and so no count
+SIZE, COUNT_AT, FRONT, RECORD = 256, 7, 8, 8  # bytes: the state, where its count of running leaves is, what is before the records, a record
 
 
 def report(nodes, names, state):
-    if len(state) not in (FULL, OLD):
-        raise Fault(f"the state has {len(state)} bytes; a saved state has {FULL} ({OLD} before the count of running leaves was kept)")
-    front = FRONT if len(state) == FULL else 0
-    yield f"running leaves: {state[7]}" if front else f"running leaves: not kept in a state of {OLD} bytes"
+    if len(state) != SIZE:
+        raise Fault(f"the state has {len(state)} bytes; a saved state has {SIZE}")
+    yield f"running leaves: {state[COUNT_AT]}"
     for node in nodes:
-        at = front + RECORD * node.number
+        at = FRONT + RECORD * node.number
         yield from record(node, names, state[at:at + RECORD])
     yield "Whether the state fits the policy is not judged here. The guard judges it at each call, and refuses by 12 if it does not fit."
 
