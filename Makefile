@@ -5,7 +5,7 @@ COUNT = 20000
 PREFIX = /usr/local
 DESTDIR =
 
-PROGRAMS = guardrun guardwrite guardtext
+PROGRAMS = guardrun guardwrite guardtext guardcheck
 VERSION = $(shell sed -n 's/.*FRETMERE_VERSION "\(.*\)"/\1/p' include/fretmere.h)
 UNDER = $(DESTDIR)$(PREFIX)
 

@@ -83,7 +83,11 @@ static void start(void)
     }
     answer = fretmere_open(policy, policy_length, work, sizeof work, events, sizeof events);
     if (fretmere_refusal(answer) != FRETMERE_NOT_REFUSED) {
-        fprintf(stderr, "the policy is refused: %u\n", fretmere_refusal(answer));
+        fprintf(stderr, "the policy is refused: %u", fretmere_refusal(answer));
+        if (fretmere_place(answer) != FRETMERE_NO_PLACE) {
+            fprintf(stderr, " at %d", fretmere_place(answer));
+        }
+        fputc('\n', stderr);
         exit(1);
     }
     answered(answer);

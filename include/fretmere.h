@@ -10,8 +10,8 @@
  * What the library needs. It is x86-64 code and uses SSE registers, which a task that calls it must be allowed to. Of the C library it calls
  * memcpy and memset, nothing else. No call keeps a pointer, has memory of its own between calls, uses the heap or calls the system.
  *
- * Stack of a call, as measured on the largest and the deepest policies (docs/BENCHMARKS.md): fretmere_check 1,288 bytes, fretmere_open,
- * fretmere_offer and fretmere_close at most 4,632, fretmere_write 8,008.
+ * Stack of a call, as measured on the largest and the deepest policies (docs/BENCHMARKS.md): fretmere_check 1,304 bytes, fretmere_open,
+ * fretmere_offer and fretmere_close at most 4,632, fretmere_write 8,040.
  *
  * Calls at the same time. The policy is only read: calls that run at once may share it. State and event buffers are written: no two
  * calls at once may have one of these in common.
@@ -29,10 +29,10 @@ extern "C" {
 #endif
 
 /* The version of this header and of the library that goes with it. The number in the policy file's third byte is another: the format's. */
-#define FRETMERE_VERSION_MAJOR 1
+#define FRETMERE_VERSION_MAJOR 2
 #define FRETMERE_VERSION_MINOR 0
 #define FRETMERE_VERSION_PATCH 0
-#define FRETMERE_VERSION "1.0.0"
+#define FRETMERE_VERSION "2.0.0"
 
 #define FRETMERE_POLICY_MOST 6646 /* the length of the longest file that can pass the check */
 #define FRETMERE_STATE_BYTES 256  /* a state buffer has exactly this many bytes */
@@ -70,21 +70,33 @@ enum {
 /* An event is two bytes: what happened, then the action. */
 enum { FRETMERE_ACCEPTED = 1, FRETMERE_SUPPRESSED = 2, FRETMERE_INSERTED = 3 };
 
-/* The answer to open, offer, close, running_leaves and write. */
+/* The answer of every function: a refusal, or what the function tells. Read it by the functions below. */
 typedef uint32_t fretmere_answer;
 
 /* The refusal, or 0 if the call was answered. */
 static inline unsigned fretmere_refusal(fretmere_answer answer) { return answer >> 24; }
 
-/* The root's status after the call, and the number of its events. Both are 0 after a refusal. */
-static inline unsigned fretmere_status(fretmere_answer answer) { return answer >> 16 & 0xFFu; }
-static inline unsigned fretmere_events(fretmere_answer answer) { return answer & 0xFFFFu; }
+/* Which record a refusal from 4 to 10 is about: the lowest-numbered one that breaks the rule. Nodes are counted from 0, and so are steps, over
+ * the whole file. It is a node for 5, 9 and 10 and a step for 6, 7 and 8 (0 also where the step counts of the leaves do not add up). For 4
+ * nodes come before steps: in a file of n nodes a place p below n is node p, and any other is step p - n. No other answer has a place. */
+#define FRETMERE_NO_PLACE (-1)
+static inline int fretmere_place(fretmere_answer answer)
+{
+    return fretmere_refusal(answer) == FRETMERE_NOT_REFUSED ? FRETMERE_NO_PLACE : (int)(answer & 0xFFFFFFu) - 1;
+}
+
+/* What a call tells that is not refused; 0 after a refusal. */
+static inline unsigned fretmere_told(fretmere_answer answer) { return fretmere_refusal(answer) == FRETMERE_NOT_REFUSED ? answer : 0; }
+
+/* After fretmere_open, fretmere_offer and fretmere_close, the root's status and the number of events; 0 after a refusal. */
+static inline unsigned fretmere_status(fretmere_answer answer) { return fretmere_told(answer) >> 16; }
+static inline unsigned fretmere_events(fretmere_answer answer) { return fretmere_told(answer) & 0xFFFFu; }
 
 /* After fretmere_running_leaves, the count; 0 after a refusal. */
-static inline unsigned fretmere_leaves(fretmere_answer answer) { return answer & 0xFFu; }
+static inline unsigned fretmere_leaves(fretmere_answer answer) { return fretmere_told(answer); }
 
 /* After fretmere_write, the length of the file; 0 after a refusal. */
-static inline unsigned fretmere_length(fretmere_answer answer) { return answer & 0xFFFFFFu; }
+static inline unsigned fretmere_length(fretmere_answer answer) { return fretmere_told(answer); }
 
 /* The verdict on the offered action: FRETMERE_ACCEPTED or FRETMERE_SUPPRESSED, or 0 if there is none, because the call was refused or the
  * policy halted before its verdict. What is not accepted does not go to the drives. `events` is the buffer that fretmere_offer wrote. */
@@ -127,9 +139,9 @@ static inline int fretmere_next(fretmere_cursor *cursor)
 }
 
 /* Checks a policy file. Returns 0 and writes the root's two sets, bit a for action a: `regulated`, the actions that the policy acts on, and
- * `effects`, those that it may insert or suppress. Or returns the refusal, 1 to 10, and writes nothing. The two pointers are not NULL, and
+ * `effects`, those that it may insert or suppress. Or refuses with 1 to 10, and writes nothing. The two pointers are not NULL, and
  * not equal. */
-uint8_t fretmere_check(const uint8_t *policy, size_t policy_length, uint64_t *regulated, uint64_t *effects);
+fretmere_answer fretmere_check(const uint8_t *policy, size_t policy_length, uint64_t *regulated, uint64_t *effects);
 
 /* Opens the policy. Refusals 1 to 11. What the state buffer holds beforehand is not read; all of it is written. Events are written from
  * the event buffer's first byte on, and the bytes after the last event stay as they were. */

@@ -13,11 +13,18 @@ static void write_number(uint64_t number, unsigned bytes)
     }
 }
 
+/* A refusal number and its place: 0 where there is none, else the place and 1. */
+static void write_refusal(uint8_t refusal, guard_place place)
+{
+    write_number(refusal, 1);
+    write_number(place.given ? place.number + 1u : 0, 2);
+}
+
 static void answer_check(void)
 {
     const guard_sets sets = guard_check(policy.bytes, policy.length);
 
-    write_number(sets.refusal, 1);
+    write_refusal(sets.refusal, sets.place);
     write_number(sets.regulated.bits, 8);
     write_number(sets.effect.bits, 8);
 }
@@ -27,7 +34,7 @@ static void answer_write(void)
     const guard_written written = guard_write(nodes->bytes, nodes->length, steps->bytes,
                                               steps->length, out->bytes, out->length);
 
-    write_number(written.refusal, 1);
+    write_refusal(written.refusal, written.place);
     write_number(written.length, 2);
     fwrite(out->bytes, 1, out->length, stdout);
 }
@@ -46,7 +53,7 @@ static void answer_call(int entry, uint8_t action)
         answer = guard_close(policy.bytes, policy.length, state.bytes, state.length,
                              events.bytes, events.length);
     }
-    write_number(answer.refusal, 1);
+    write_refusal(answer.refusal, answer.place);
     write_number(answer.events, 2);
     write_number(answer.status, 1);
     fwrite(state.bytes, 1, state.length, stdout);

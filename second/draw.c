@@ -759,7 +759,7 @@ static guard_answer call(struct session *s, unsigned entry, uint8_t action)
 {
     const size_t state_length = entry == CHECK ? 0 : s->state_length;
     const size_t events_length = entry == CHECK ? 0 : s->events_length;
-    guard_answer answer = {0, 0, 0};
+    guard_answer answer = {0};
 
     if (calls_left == 0) {
         return answer;
@@ -1631,6 +1631,164 @@ static bool break_file(struct file *f)
 }
 
 /* ------------------------------------------------------------------ */
+/* Places: a rule broken in several records, so that the lowest is to be found, or
+ * two rules in one file, of which the second may be broken in a lower record.  */
+
+/* Rule 7: another target that rule 6 lets stand, a later step or a next. */
+static bool lead_astray(struct file *f)
+{
+    struct place at;
+
+    if (!find_step(f, &at) || targets(at.step[0]) == 0) {
+        return false;
+    }
+    const unsigned to = below(at.count);
+    at.step[2 + below(targets(at.step[0]))] = (uint8_t)to;
+    return to > at.offset || at.own[12u * to] == NEXT;
+}
+
+/* Rule 8, or still good: another set inside the leaf's. */
+static bool ask_anew(struct file *f)
+{
+    struct place at;
+
+    if (!find_kind(f, &at, ACASE)) {
+        return false;
+    }
+    put(at.step + 4, chance(30) ? at.set : chance(30) ? 0 : thin(at.set, 50), 8);
+    return true;
+}
+
+/* Rule 6 in an acase: an action that the leaf doesn't regulate. */
+static bool ask_outside(struct file *f)
+{
+    struct place at;
+    const uint64_t bit = UINT64_C(1) << below(64);
+
+    if (!find_kind(f, &at, ACASE)) {
+        return false;
+    }
+    put(at.step + 4, get(at.step + 4, 8) | bit, 8);
+    return (at.set & bit) == 0;
+}
+
+/* Rule 9, or still good: an inner node made parallel. */
+static bool lay_side_by_side(struct file *f)
+{
+    uint8_t *node = file_node(f, below(f->bytes[3]));
+    const bool inner = node[0] >= PAR_AND && node[0] <= SEQ_OR;
+
+    if (inner) {
+        node[0] = chance(50) ? PAR_AND : PAR_OR;
+    }
+    return inner;
+}
+
+static bool break_rule(struct file *f, unsigned rule)
+{
+    switch (rule) {
+    case 4:
+        return chance(40) ? break_node(f, below(7)) : break_fields(f, below(4));
+    case 5: /* one field, or two fields exchanged */
+        return chance(70) ? break_child(f, below(5)) : break_tree(f, 0);
+    case 6:
+        return chance(6) ? break_sum(f) : chance(20) ? ask_outside(f) : break_step(f, below(2));
+    case 7:
+        return chance(80) ? lead_astray(f) : break_step(f, 5);
+    case 8:
+        return ask_anew(f);
+    default:
+        return lay_side_by_side(f);
+    }
+}
+
+/* Breaks a rule up to so many times, as far as chance finds records for it. */
+static void break_often(struct file *f, unsigned rule, unsigned times)
+{
+    for (unsigned tries = 0; times > 0 && tries < 40; tries++) {
+        const struct file before = *f;
+        if (break_rule(f, rule)) {
+            times--;
+        } else {
+            *f = before;
+        }
+    }
+}
+
+static void break_places(struct file *f)
+{
+    const unsigned rule = between(4, 9);
+    const unsigned times = between(1, 4);
+
+    break_often(f, rule, times);
+    if (chance(35)) {
+        const unsigned other = between(4, 9);
+        break_often(f, other, between(1, 2));
+    }
+}
+
+/* A leaf that keeps to rule 6 and seldom to rule 7: kinds by chance, every target a
+ * later step or a next. Its modes go every way, back to a next from a step that
+ * stands in two modes or in a wrong one too. */
+static void loose_leaf(struct node *leaf, uint64_t set)
+{
+    static const unsigned KINDS[] = {0, 20, 15, 8, 10, 20, 20, 4, 3};
+    const unsigned count = chance(85) ? between(2, 7) : between(8, 40);
+
+    *leaf = (struct node){.kind = LEAF, .count = (uint8_t)count, .set = set};
+    leaf->start = draw_start();
+    for (unsigned s = 0; s < count; s++) {
+        leaf->steps[s].kind = (uint8_t)pick_weighted(KINDS, 9);
+    }
+    if (chance(85)) {
+        leaf->steps[0].kind = NEXT;
+    }
+    leaf->steps[count - 1].kind = chance(70) ? END : HALT; /* every other has a later one */
+    for (unsigned s = 0; s < count; s++) {
+        struct step *step = &leaf->steps[s];
+        for (unsigned t = 0; t < targets(step->kind); t++) {
+            unsigned to = chance(40) && s + 1 < count ? s + 1 : below(count);
+            while (to <= s && leaf->steps[to].kind != NEXT) {
+                to = below(count);
+            }
+            step->to[t] = (uint8_t)to;
+        }
+        step->action = (uint8_t)(step->kind == INS ? below(10) : 0);
+        step->operand = step->kind == ACASE   ? thin(set, 50)
+                        : step->kind == SPEND ? below(4)
+                                              : 0;
+    }
+}
+
+/* A small tree with a loose leaf or more; the other leaves are good ones. */
+static void grow_loose(struct session *s)
+{
+    struct policy *p = &s->policy;
+    const unsigned inner = below(5);
+    const unsigned shape = below(4);
+
+    grow_shape(p, inner, shape);
+    for (unsigned k = 0; k < p->n; k++) {
+        struct node *node = &p->nodes[k];
+        if (node->kind >= PAR_AND) {
+            continue;
+        }
+        uint64_t set = UINT64_C(1) << below(6);
+        set |= UINT64_C(1) << below(6);
+        if (chance(50)) {
+            loose_leaf(node, set);
+        } else if (chance(70)) {
+            const unsigned width = below(4);
+            plain_leaf(node, set, width, below(8));
+        } else {
+            node->kind = chance(50) ? TRIVIAL : UNSATISFIABLE;
+        }
+    }
+    write_file(&s->file, p);
+    s->sets = guard_check(s->file.bytes, s->file.length);
+}
+
+/* ------------------------------------------------------------------ */
 /* What a batch is made of.                                             */
 
 static void fresh_state(struct session *s)
@@ -1715,9 +1873,15 @@ static void any_call(struct session *s)
     call_with_action(s, chance(55) ? CHECK : between(OPEN, CLOSE));
 }
 
-/* A good file with one clause broken, or with two. */
+/* A good file with one clause broken, or with two, or with a rule broken in more than
+ * one record. */
 static void break_good(struct file *f, const struct file *good)
 {
+    if (chance(45)) {
+        *f = *good;
+        break_places(f);
+        return;
+    }
     do {
         *f = *good;
     } while (!break_file(f));
@@ -1760,6 +1924,12 @@ static void grow_wide(struct session *s)
 static void draw_wide(struct session *s)
 {
     grow_wide(s);
+    any_call(s);
+}
+
+static void draw_loose(struct session *s)
+{
+    grow_loose(s);
     any_call(s);
 }
 
@@ -2061,13 +2231,13 @@ static void draw_noise_records(void)
 
 static void draw_write(struct session *s)
 {
-    static const unsigned SHARES[] = {160, 45, 15, 8, 8, 12, 6, 10, 3};
+    static const unsigned SHARES[] = {160, 45, 15, 8, 8, 12, 6, 10, 8, 3};
 
     draw_passing(s);
     const struct file good = s->file;
     for (unsigned times = between(1, 4); times > 0; times--) {
         take_apart(&good);
-        switch (pick_weighted(SHARES, 9)) {
+        switch (pick_weighted(SHARES, 10)) {
         case 0:
             call_write_all(15);
             break;
@@ -2094,6 +2264,11 @@ static void draw_write(struct session *s)
         case 7:
             draw_calm();
             break;
+        case 8:
+            grow_loose(s);
+            take_apart(&s->file);
+            call_write_all(35);
+            break;
         default:
             draw_noise_records();
             break;
@@ -2104,7 +2279,7 @@ static void draw_write(struct session *s)
 int main(int argc, char **argv)
 {
     static struct session s;
-    static const unsigned SHARES[] = {38, 23, 14, 19, 7, 4, 24};
+    static const unsigned SHARES[] = {38, 23, 14, 20, 9, 4, 24, 15};
 
     if (argc != 3) {
         fputs("draw SEED COUNT\n", stderr);
@@ -2114,7 +2289,7 @@ int main(int argc, char **argv)
     seed_word = seed_word == 0 ? 1 : seed_word;
     calls_left = strtoul(argv[2], NULL, 10);
     while (calls_left > 0) {
-        switch (pick_weighted(SHARES, 7)) {
+        switch (pick_weighted(SHARES, 8)) {
         case 0:
             draw_run(&s);
             break;
@@ -2133,8 +2308,11 @@ int main(int argc, char **argv)
         case 5:
             draw_noise(&s);
             break;
-        default:
+        case 6:
             draw_write(&s);
+            break;
+        default:
+            draw_loose(&s);
             break;
         }
     }

@@ -1,4 +1,4 @@
-/* guard.c: a policy guard written by hand from 01, and 02's writer and count; their sentences stand in quotation marks. */
+/* guard.c: a policy guard written by hand from 01, and 02's writer, places and count; their sentences stand in quotation marks. */
 #include "guard.h"
 
 #include <stdbool.h>
@@ -77,6 +77,8 @@ struct policy {
     const uint8_t *steps;
     unsigned n;
     unsigned m;
+    uint8_t offender;                     /* with rule 9 or 10 broken: the lowest
+                                             node that breaks it */
     uint16_t first[GUARD_MAX_NODES];      /* a leaf's first step in the file */
     uint8_t feeder[GUARD_MAX_NODES];      /* nearest sequential node to whose
                                              left side the node belongs */
@@ -158,7 +160,7 @@ static uint8_t read_header(struct policy *p, const uint8_t *bytes, size_t length
 }
 
 /* Rule 4 for a node, "child numbers apart". */
-static bool node_is_laid_out(const uint8_t *node)
+static inline bool node_is_laid_out(const uint8_t *node)
 {
     const bool no_sides = node[NODE_LEFT] == 0 && node[NODE_RIGHT] == 0;
     const bool no_steps = node[NODE_STEPS] == 0;
@@ -199,7 +201,7 @@ static const struct {
     [HALT] = {0x00FFFFFFu, UINT64_MAX},
 };
 
-static bool step_is_laid_out(const uint8_t *step)
+static inline bool step_is_laid_out(const uint8_t *step)
 {
     const unsigned kind = step[0];
 
@@ -258,7 +260,22 @@ static const uint8_t TARGETS[HALT + 1] = {
     [NEXT] = 2, [OK] = 1, [SUP] = 1, [INS] = 1, [ACASE] = 2, [SPEND] = 2,
 };
 
-/* Rule 6 for one leaf: its targets and its acase sets. */
+/* Rule 6 for a step of a leaf, whose own steps, their number and set these are: its
+ * targets, and the set of an acase. */
+static inline bool step_holds(const uint8_t *own, unsigned count, guard_set set, unsigned offset)
+{
+    const uint8_t *step = own + STEP_BYTES * offset;
+
+    for (unsigned t = 0; t < TARGETS[step[0]]; t++) {
+        const unsigned target = step[STEP_FIRST + t];
+        if (target >= count || (target <= offset && own[STEP_BYTES * target] != NEXT)) {
+            return false;
+        }
+    }
+    return step[0] != ACASE ||
+           set_is_empty(set_difference((guard_set){be64(step + STEP_OPERAND)}, set));
+}
+
 static bool leaf_steps_hold(const struct policy *p, unsigned leaf)
 {
     const uint8_t *node = node_at(p, leaf);
@@ -267,16 +284,7 @@ static bool leaf_steps_hold(const struct policy *p, unsigned leaf)
     const unsigned count = node[NODE_STEPS];
 
     for (unsigned offset = 0; offset < count; offset++) {
-        const uint8_t *step = own + STEP_BYTES * offset;
-        for (unsigned t = 0; t < TARGETS[step[0]]; t++) {
-            const unsigned target = step[STEP_FIRST + t];
-            if (target >= count ||
-                (target <= offset && own[STEP_BYTES * target] != NEXT)) {
-                return false;
-            }
-        }
-        if (step[0] == ACASE &&
-            !set_is_empty(set_difference((guard_set){be64(step + STEP_OPERAND)}, set))) {
+        if (!step_holds(own, count, set, offset)) {
             return false;
         }
     }
@@ -463,11 +471,11 @@ static uint8_t check_leaves(struct policy *p, struct node_facts *facts)
 }
 
 /* Rules 9 and 10: a child's number is greater, so sides come before their
- * node when numbers fall. */
+ * node when numbers fall. The last node found is then the lowest, 02's place. */
 static uint8_t check_inner(struct policy *p, struct node_facts *facts)
 {
-    bool interfere = false;
-    bool too_wide = false;
+    unsigned interferes = NO_NODE;
+    unsigned too_wide = NO_NODE;
 
     for (unsigned k = p->n; k-- > 0;) {
         const uint8_t *node = node_at(p, k);
@@ -480,14 +488,24 @@ static uint8_t check_inner(struct policy *p, struct node_facts *facts)
         if (!is_sequential(node[0]) &&
             (!set_is_empty(set_common(facts[l].effect, p->regulated[r])) ||
              !set_is_empty(set_common(facts[r].effect, p->regulated[l])))) {
-            interfere = true;
+            interferes = k;
         }
         p->regulated[k] = set_union(p->regulated[l], p->regulated[r]);
         facts[k].effect = set_union(facts[l].effect, facts[r].effect);
         facts[k].spread = join_spread(node[0], facts[l].spread, facts[r].spread);
-        too_wide = too_wide || facts[k].spread > MAX_SPREAD;
+        if (facts[k].spread > MAX_SPREAD) {
+            too_wide = k;
+        }
     }
-    return interfere ? 9 : too_wide ? 10 : 0;
+    if (interferes != NO_NODE) {
+        p->offender = (uint8_t)interferes;
+        return 9;
+    }
+    if (too_wide != NO_NODE) {
+        p->offender = (uint8_t)too_wide;
+        return 10;
+    }
+    return 0;
 }
 
 /* Rules 4 to 10. "Each rule is tried over the whole file." "The lowest number that
@@ -522,6 +540,200 @@ static uint8_t check_policy(struct policy *p, const uint8_t *bytes, size_t lengt
     const uint8_t refusal = read_header(p, bytes, length);
 
     return refusal != 0 ? refusal : check_records(p, effect);
+}
+
+/* ------------------------------------------------------------------ */
+/* Places. 02, Req 03: "Refusals 4 to 10 shall also carry a place: the
+ * lowest-numbered node or step that breaks that rule."
+ *
+ * A place is looked for only once its rule is known to be broken and the rules
+ * before it to hold, so that a file that passes pays nothing, and every search
+ * below ends at a record that is there. */
+
+/* Rule 4: "nodes come before steps, and step i counts as n + i". */
+static unsigned place_in_layout(const struct policy *p)
+{
+    unsigned k = 0, s = 0;
+
+    while (k < p->n && node_is_laid_out(node_at(p, k))) {
+        k++;
+    }
+    if (k < p->n) {
+        return k;
+    }
+    while (step_is_laid_out(p->steps + (size_t)STEP_BYTES * s)) {
+        s++;
+    }
+    return p->n + s;
+}
+
+/* A child not "greater than its parent's and less than n". */
+static bool has_bad_child(const struct policy *p, unsigned k)
+{
+    const uint8_t *node = node_at(p, k);
+
+    return is_inner(node[0]) && (node[NODE_LEFT] <= k || node[NODE_LEFT] >= p->n ||
+                                 node[NODE_RIGHT] <= k || node[NODE_RIGHT] >= p->n);
+}
+
+/* How many child fields name a node; that of a bad child counts too. */
+static unsigned times_named(const struct policy *p, unsigned child)
+{
+    unsigned times = 0;
+
+    for (unsigned k = 0; k < p->n; k++) {
+        const uint8_t *node = node_at(p, k);
+        if (is_inner(node[0])) {
+            times += (node[NODE_LEFT] == child) + (node[NODE_RIGHT] == child);
+        }
+    }
+    return times;
+}
+
+/* Rule 5: "the lowest node that has a bad child or, 0 apart, isn't a child exactly
+ * once". tree_holds stops at a node that names, often after the one that is named. */
+static unsigned place_in_tree(const struct policy *p)
+{
+    unsigned k = 0;
+
+    while (!has_bad_child(p, k) && (k == 0 || times_named(p, k) == 1)) {
+        k++;
+    }
+    return k;
+}
+
+/* Rules 6 to 8 are looked for leaf by leaf: the answer is the offset in the leaf, or
+ * its number of steps where it keeps to the rule. */
+
+/* Rule 6: the step that holds a bad target or a bad set. */
+static unsigned place_in_targets(const struct policy *p, unsigned leaf)
+{
+    const uint8_t *node = node_at(p, leaf);
+    const guard_set set = {be64(node + NODE_SET)};
+    unsigned offset = 0;
+
+    while (offset < node[NODE_STEPS] &&
+           step_holds(step_at(p, leaf, 0), node[NODE_STEPS], set, offset)) {
+        offset++;
+    }
+    return offset;
+}
+
+/* Rule 7: first all modes of all steps, then the lowest step that breaks the rule,
+ * as it may by what a later step leads to. A step leads on from each mode in which
+ * it may stand, and from no other. One pass in order of offset is enough: what is
+ * led back to is a next, which leads on from idle mode alone, and is reached idle in
+ * any case. */
+static unsigned place_in_modes(const struct policy *p, unsigned leaf)
+{
+    const unsigned count = node_at(p, leaf)[NODE_STEPS];
+    uint8_t modes[MAX_LEAF_STEPS] = {IDLE};
+    unsigned place = 0;
+
+    for (unsigned offset = 0; offset < count; offset++) {
+        const uint8_t *step = step_at(p, leaf, offset);
+        modes[offset] |= step[0] == NEXT ? IDLE : 0;
+        for (unsigned mode = IDLE; mode <= CLOSING; mode <<= 1) {
+            const uint8_t follows = FOLLOWS[step[0]][modes[offset] & mode];
+            for (unsigned t = 0; follows != 0 && t < TARGETS[step[0]]; t++) {
+                modes[step[STEP_FIRST + t]] |= step[0] == NEXT && t == 1 ? CLOSING : follows;
+            }
+        }
+    }
+    while (place < count && FOLLOWS[step_at(p, leaf, place)[0]][modes[place]] != 0) {
+        place++;
+    }
+    return place;
+}
+
+/* Rule 8, where rule 7 holds: the lowest acase with "a branch that no possible action
+ * takes". When it is looked at, all that leads to it has been. */
+static unsigned place_in_branches(const struct policy *p, unsigned leaf)
+{
+    const uint8_t *node = node_at(p, leaf);
+    guard_set possible[MAX_LEAF_STEPS] = {EMPTY};
+    unsigned offset;
+
+    for (offset = 0; offset < node[NODE_STEPS]; offset++) {
+        const uint8_t *step = step_at(p, leaf, offset);
+        guard_set passed[2] = {EMPTY, EMPTY}; /* on to each target */
+
+        if (step[0] == NEXT) {
+            passed[0] = (guard_set){be64(node + NODE_SET)};
+        } else if (step[0] == INS || step[0] == SPEND) {
+            passed[0] = passed[1] = possible[offset];
+        } else if (step[0] == ACASE) {
+            passed[0] = set_common(possible[offset], (guard_set){be64(step + STEP_OPERAND)});
+            passed[1] = set_difference(possible[offset], passed[0]);
+            if (set_is_empty(passed[0]) || set_is_empty(passed[1])) {
+                break;
+            }
+        }
+        for (unsigned t = 0; t < TARGETS[step[0]]; t++) {
+            guard_set *to = &possible[step[STEP_FIRST + t]];
+            *to = set_union(*to, passed[t]);
+        }
+    }
+    return offset;
+}
+
+/* Rules 6 to 8: steps of a later leaf have greater numbers, so the first leaf that
+ * breaks the rule has the lowest step. */
+static unsigned place_in_leaves(const struct policy *p,
+                                unsigned (*search)(const struct policy *, unsigned))
+{
+    for (unsigned k = 0;; k++) {
+        const uint8_t *node = node_at(p, k);
+        if (node[0] == LEAF) {
+            const unsigned offset = search(p, k);
+            if (offset < node[NODE_STEPS]) {
+                return p->first[k] + offset;
+            }
+        }
+    }
+}
+
+/* "For 6 with a wrong sum it is 0." */
+static bool sum_holds(const struct policy *p)
+{
+    unsigned total = 0;
+
+    for (unsigned k = 0; k < p->n; k++) {
+        total += node_at(p, k)[NODE_STEPS];
+    }
+    return total == p->m;
+}
+
+/* The place of a refusal, where there is one. "For 9 and 10 it is the node", which
+ * check_inner has left in p: it needs the facts of all nodes. */
+static guard_place place_of(const struct policy *p, uint8_t refusal)
+{
+    unsigned place;
+
+    switch (refusal) {
+    case 4:
+        place = place_in_layout(p);
+        break;
+    case 5:
+        place = place_in_tree(p);
+        break;
+    case 6:
+        place = sum_holds(p) ? place_in_leaves(p, place_in_targets) : 0;
+        break;
+    case 7:
+        place = place_in_leaves(p, place_in_modes);
+        break;
+    case 8:
+        place = place_in_leaves(p, place_in_branches);
+        break;
+    case 9:
+    case 10:
+        place = p->offender;
+        break;
+    default: /* 1 to 3 and from 11 on: no record is to blame */
+        return (guard_place){false, 0};
+    }
+    return (guard_place){true, (uint16_t)place};
 }
 
 /* ------------------------------------------------------------------ */
@@ -945,16 +1157,17 @@ static guard_answer settle(struct run *g)
         }
     }
     g->state[FRONT_COUNT] = running;
-    return (guard_answer){0, *record_at(g, 0), g->count};
+    return (guard_answer){.status = *record_at(g, 0), .events = g->count};
 }
 
 /* ------------------------------------------------------------------ */
 /* The entry points. "A refusal returns that number and zero events; state and
  * event buffers keep every byte."                                      */
 
-static guard_answer refuse(uint8_t refusal)
+/* "Every caller passes the place on unchanged." */
+static guard_answer refuse(const struct policy *p, uint8_t refusal)
 {
-    return (guard_answer){refusal, 0, 0};
+    return (guard_answer){.refusal = refusal, .place = place_of(p, refusal)};
 }
 
 /* Rules 1 to 11, and 12 unless the state is still to be made. */
@@ -981,9 +1194,9 @@ guard_sets guard_check(const uint8_t *policy, size_t policy_length)
     const uint8_t refusal = check_policy(&p, policy, policy_length, &effect);
 
     if (refusal != 0) {
-        return (guard_sets){refusal, EMPTY, EMPTY};
+        return (guard_sets){.refusal = refusal, .place = place_of(&p, refusal)};
     }
-    return (guard_sets){0, p.regulated[0], effect};
+    return (guard_sets){.regulated = p.regulated[0], .effect = effect};
 }
 
 guard_answer guard_open(const uint8_t *policy, size_t policy_length,
@@ -995,7 +1208,7 @@ guard_answer guard_open(const uint8_t *policy, size_t policy_length,
         admit(&p, policy, policy_length, state, state_length, events_length, false);
 
     if (refusal != 0) {
-        return refuse(refusal);
+        return refuse(&p, refusal);
     }
     struct run g = {&p, state, events, 0, 0};
     memset(state, 0, GUARD_STATE_BYTES);
@@ -1015,20 +1228,20 @@ guard_answer guard_offer(const uint8_t *policy, size_t policy_length,
         admit(&p, policy, policy_length, state, state_length, events_length, true);
 
     if (refusal != 0) {
-        return refuse(refusal);
+        return refuse(&p, refusal);
     }
     if (action > MAX_ACTION) {
-        return refuse(13);
+        return refuse(&p, 13);
     }
     if (*saved_record(state, 0) == GUARD_HALTED) {
-        return refuse(14); /* "the root has halted" */
+        return refuse(&p, 14); /* "the root has halted" */
     }
     struct run g = {&p, state, events, 0, 0};
     if (!is_asked(&g, 0, action)) {
         /* "At the root, an action not regulated is accepted with no change. So is
          * any action once the root has ended." */
         put_event(&g, GUARD_ACCEPTED, action);
-        return (guard_answer){0, *record_at(&g, 0), g.count};
+        return (guard_answer){.status = *record_at(&g, 0), .events = g.count};
     }
     const enum outcome verdict = run_node(&g, 0, BEFORE, action);
     if (verdict != HALTS) { /* "a halt before the verdict has none" */
@@ -1049,11 +1262,11 @@ guard_answer guard_close(const uint8_t *policy, size_t policy_length,
         admit(&p, policy, policy_length, state, state_length, events_length, true);
 
     if (refusal != 0) {
-        return refuse(refusal);
+        return refuse(&p, refusal);
     }
     if (*saved_record(state, 0) != GUARD_RUNNING) {
         /* "Closing a decided root emits nothing and answers its status." */
-        return (guard_answer){0, *saved_record(state, 0), 0};
+        return (guard_answer){.status = *saved_record(state, 0)};
     }
     struct run g = {&p, state, events, 0, 0};
     (void)run_node(&g, 0, CLOSING_DOWN, 0);
@@ -1123,8 +1336,8 @@ guard_written guard_write(const uint8_t *nodes, size_t nodes_length,
         refusal = 15; /* "when the lent output is shorter than the file, tried last" */
     }
     if (refusal != 0) {
-        return (guard_written){refusal, 0};
+        return (guard_written){.refusal = refusal, .place = place_of(&p, refusal)};
     }
     put_file(out, &p);
-    return (guard_written){0, (uint16_t)file_length(&p)};
+    return (guard_written){.length = (uint16_t)file_length(&p)};
 }

@@ -2,6 +2,7 @@
 #ifndef GUARD_H
 #define GUARD_H
 
+#include <stdbool.h>
 #include <stddef.h>
 #include <stdint.h>
 
@@ -27,10 +28,21 @@ typedef struct {
     uint64_t bits;
 } guard_set;
 
+/* 02, Req 03: "Refusals 4 to 10 shall also carry a place: the lowest-numbered node
+ * or step that breaks that rule." The number is to be read only where there is a
+ * place: with a refusal 4 to 10, and with no other answer. It is a node's for 5, 9
+ * and 10, a step's "over the whole file" for 6 to 8; "for 4, nodes come before
+ * steps, and step i counts as n + i". */
+typedef struct {
+    bool given;
+    uint16_t number;
+} guard_place;
+
 /* "The check's answer carries either the root's two sets or a refusal number."
  * refusal is 0, or 1 to 10; with a refusal both sets are empty. */
 typedef struct {
     uint8_t refusal;
+    guard_place place;
     guard_set regulated;
     guard_set effect;
 } guard_sets;
@@ -42,12 +54,15 @@ typedef struct {
     uint8_t refusal;
     uint8_t status;
     uint16_t events;
+    guard_place place;
 } guard_answer;
 
-/* refusal is 0 and length the file's, or refusal is 3 to 10 or 15 and length 0. */
+/* refusal is 0 and length the file's, or refusal is 3 to 10 or 15 and length 0. A
+ * place is that of the file that would be written. */
 typedef struct {
     uint8_t refusal;
     uint16_t length;
+    guard_place place;
 } guard_written;
 
 /* refusal is 0 and leaves the count of running leaves, or refusal is 11 and leaves 0. */

@@ -1,4 +1,4 @@
-/* run.c: 01's program guardrun over the second guard; sentences of 01 stand in quotation marks. */
+/* run.c: 01's program guardrun over the second guard; sentences of 01 and 02 stand in quotation marks. */
 #include "guard.h"
 
 #include <stdbool.h>
@@ -42,10 +42,12 @@ static void say_events(guard_answer answer)
 }
 
 /* "A refused policy prints only `refused N`; a refused action prints that line
- * and goes on." */
+ * and goes on." With a place "guardrun then prints `refused N at P`". */
 static bool say_refusal(guard_answer answer)
 {
-    if (answer.refusal != 0) {
+    if (answer.refusal != 0 && answer.place.given) {
+        printf("refused %u at %u\n", (unsigned)answer.refusal, (unsigned)answer.place.number);
+    } else if (answer.refusal != 0) {
         printf("refused %u\n", (unsigned)answer.refusal);
     }
     return answer.refusal != 0;

@@ -12,6 +12,8 @@ static struct {
     unsigned long calls, answered, with_events, changing;
     unsigned long entries[5], answered_by[5], refusals[15], statuses[7];
     unsigned long write_refusals[16], short_refusals[16], room[3];
+    unsigned long at_0[16], above_0[16], places[16], most_place[16], in_steps[2];
+    bool places_seen[16][UINT16_MAX + 1];
     unsigned long kinds[8], nodes[32], steps[6], step_kinds[9], status_by_node[7];
     unsigned long event_counts[12], event_kinds[4], most_events, verdict_halts;
     unsigned long buffers[4], state_lengths[3], fronts[8], running[GUARD_MAX_NODES + 1], fewer[4];
@@ -44,6 +46,24 @@ static unsigned bucket(unsigned count)
     return b;
 }
 
+/* The place of a refused call; n is the number of nodes. */
+static void count_place(uint8_t refusal, guard_place place, unsigned n)
+{
+    if (!place.given) {
+        return;
+    }
+    seen.at_0[refusal] += place.number == 0;
+    seen.above_0[refusal] += place.number > 0;
+    seen.places[refusal] += !seen.places_seen[refusal][place.number];
+    seen.places_seen[refusal][place.number] = true;
+    if (place.number > seen.most_place[refusal]) {
+        seen.most_place[refusal] = place.number;
+    }
+    if (refusal == 4) {
+        seen.in_steps[place.number < n ? 0 : 1]++;
+    }
+}
+
 /* What is counted of every entry; file is the policy of an answered call. */
 static bool count_call(int entry, uint8_t refusal, const uint8_t *file)
 {
@@ -65,6 +85,7 @@ static void count_write(void)
                                               state.length, events.bytes, events.length);
 
     seen.write_refusals[written.refusal]++;
+    count_place(written.refusal, written.place, (unsigned)(policy.length / 16));
     if (6 + policy.length + state.length > events.length) {
         seen.short_refusals[written.refusal]++;
     }
@@ -120,6 +141,7 @@ static void count_running(int entry, const uint8_t *before)
 static void count_answer(int entry, guard_answer answer, bool changed)
 {
     seen.refusals[answer.refusal]++;
+    count_place(answer.refusal, answer.place, policy.bytes[3]);
     if (answer.refusal == 11) {
         count_lengths();
     } else if (answer.refusal == 12) {
@@ -146,7 +168,7 @@ static void count_answer(int entry, guard_answer answer, bool changed)
 static bool one_call(int entry)
 {
     static uint8_t before[MAX_FIELD];
-    guard_answer answer = {0, 0, 0};
+    guard_answer answer = {0};
 
     if (!read_field(&policy) || !read_field(&state) || !read_field(&events)) {
         return false;
@@ -160,7 +182,9 @@ static bool one_call(int entry)
         before[i] = state.bytes[i];
     }
     if (entry == CHECK) {
-        answer.refusal = guard_check(policy.bytes, policy.length).refusal;
+        const guard_sets sets = guard_check(policy.bytes, policy.length);
+        answer.refusal = sets.refusal;
+        answer.place = sets.place;
     } else if (entry == OPEN) {
         answer = guard_open(policy.bytes, policy.length, state.bytes, state.length,
                             events.bytes, events.length);
@@ -208,6 +232,11 @@ int main(void)
     print_row("refusals of entries 0 to 3", seen.refusals, 1, 14);
     print_row("refusals of writes", seen.write_refusals, 1, 15);
     print_row("refusals of writes whose output is too short", seen.short_refusals, 1, 15);
+    print_row("refusals of any entry at place 0", seen.at_0, 1, 15);
+    print_row("refusals of any entry at a place above 0", seen.above_0, 1, 15);
+    print_row("different places by refusal", seen.places, 1, 15);
+    print_row("greatest place by refusal", seen.most_place, 1, 15);
+    print_row("places of refusal 4 (0 a node, 1 a step)", seen.in_steps, 0, 1);
     print_row("refusal 11 (1 the state's length, 2 the events', 3 both)", seen.buffers, 1, 3);
     print_row("state's length in refusal 11 (0 248 bytes, 1 other less than 256, 2 more)",
               seen.state_lengths, 0, 2);

@@ -1,5 +1,5 @@
-/* test.c: 01's P1 to P11, its guardrun example and some edges, asserted against the guard; the count in the state; the writer, also on files it is
- * named. */
+/* test.c: 01's P1 to P11, its guardrun example and some edges, asserted against the guard; the places of refusals; the count in the state; the
+ * writer, also on files it is named. */
 #include "guard.h"
 
 #include <stdio.h>
@@ -132,6 +132,20 @@ struct session {
     char text[4096];
 };
 
+/* A refusal as text: "9 at 0" with a place, "3" without; "0" is none. */
+static const char *named(uint8_t refusal, guard_place place)
+{
+    static char text[32];
+
+    EXPECT(place.given == (refusal >= 4 && refusal <= 10));
+    if (place.given) {
+        sprintf(text, "%u at %u", refusal, place.number);
+    } else {
+        sprintf(text, "%u", refusal);
+    }
+    return text;
+}
+
 /* Node k's record in the state. */
 static uint8_t *record(struct session *s, unsigned k)
 {
@@ -159,9 +173,10 @@ static const char *tell(struct session *s, guard_answer answer)
 
     if (answer.refusal != 0) {
         EXPECT(answer.events == 0 && answer.status == 0);
-        sprintf(at, "refused %u", answer.refusal);
+        sprintf(at, "refused %s", named(answer.refusal, answer.place));
         return s->text;
     }
+    EXPECT(!answer.place.given);
     for (unsigned i = 0; i < answer.events; i++) {
         at += sprintf(at, "%c%u ", "?asi"[s->events[2 * i]], s->events[2 * i + 1]);
     }
@@ -205,6 +220,14 @@ static guard_sets check(const struct file *f)
     return guard_check(f->bytes, f->length);
 }
 
+static const char *checked(const struct file *f)
+{
+    const guard_sets sets = check(f);
+
+    EXPECT(sets.refusal == 0 || (sets.regulated.bits == 0 && sets.effect.bits == 0));
+    return named(sets.refusal, sets.place);
+}
+
 static struct session s;
 
 static void p1_to_p5(void)
@@ -233,11 +256,11 @@ static void p1_to_p5(void)
     SAYS(offer(&s, 4), "a4 =2");
 
     two(&s.file, 4, 'V', 'W');
-    EXPECT(check(&s.file).refusal == 9);
+    SAYS(checked(&s.file), "9 at 0");
     two(&s.file, 4, 'W', 'W');
-    EXPECT(check(&s.file).refusal == 9);
+    SAYS(checked(&s.file), "9 at 0");
     two(&s.file, 4, 'L', 'L');
-    EXPECT(check(&s.file).refusal == 0);
+    SAYS(checked(&s.file), "0");
 }
 
 static void p6_to_p11(void)
@@ -294,7 +317,7 @@ static void guardrun(struct session *run, const uint8_t *actions, size_t count, 
                                      run->events, sizeof run->events);
 
     if (answer.refusal != 0) {
-        sprintf(out, "refused %u\n", answer.refusal);
+        sprintf(out, "refused %s\n", named(answer.refusal, answer.place));
         return;
     }
     out += sprintf(out, "open %s\n", STATUS[answer.status]);
@@ -303,7 +326,7 @@ static void guardrun(struct session *run, const uint8_t *actions, size_t count, 
         answer = guard_offer(f->bytes, f->length, run->state, sizeof run->state, run->events,
                              sizeof run->events, actions[i]);
         if (answer.refusal != 0) {
-            out += sprintf(out, "refused %u\n", answer.refusal);
+            out += sprintf(out, "refused %s\n", named(answer.refusal, answer.place));
         }
         out = say_events(out, run, answer.events);
     }
@@ -327,11 +350,11 @@ static void guardrun_example(void)
     EXPECT(strcmp(out, "open running\nacc 2\nrefused 13\nacc 2\nacc 2\nclose halted\n") == 0);
     two(&s.file, 4, 'V', 'W');
     guardrun(&s, actions, 2, out);
-    EXPECT(strcmp(out, "refused 9\n") == 0);
+    EXPECT(strcmp(out, "refused 9 at 0\n") == 0);
 }
 
 /* Sides 15 and 15 give 255, passed; 15 and 16 give 271, refused. */
-static void spread(unsigned right, uint8_t refusal)
+static void spread(unsigned right, const char *says)
 {
     start(&s.file, 3);
     node(&s.file, 0, 5, 1, 2, 0, 0, 0);
@@ -350,7 +373,7 @@ static void spread(unsigned right, uint8_t refusal)
     step(&s.file, 2, 0, 0, 0, 0);
     step(&s.file, 7, 0, 0, 0, 0);
     finish(&s.file);
-    EXPECT(check(&s.file).refusal == refusal);
+    SAYS(checked(&s.file), says);
 }
 
 /* A right side that accepts only the first of 3 and 6: order decides. Left in
@@ -442,32 +465,43 @@ static void writes_again(const struct file *f)
     EXPECT(check(f).refusal == 0);
     for (unsigned i = 0; i < 3; i++) {
         const guard_written written = write_it(f, f->length + MORE[i]);
-        EXPECT(written.refusal == 0 && written.length == f->length);
+        EXPECT(written.refusal == 0 && !written.place.given && written.length == f->length);
         EXPECT(memcmp(out, f->bytes, f->length) == 0);
         EXPECT(unwritten_from(f->length));
     }
     for (size_t room = 0; room < f->length; room++) {
         const guard_written written = write_it(f, room);
-        EXPECT(written.refusal == 15 && written.length == 0 && unwritten_from(0));
+        EXPECT(written.refusal == 15 && !written.place.given && written.length == 0);
+        EXPECT(unwritten_from(0));
     }
 }
 
-#define REFUSED(call, number)                                               \
+#define REFUSED(call, says)                                                 \
     do {                                                                    \
         const guard_written written = (call);                               \
-        EXPECT(written.refusal == (number) && written.length == 0);         \
-        EXPECT(unwritten_from(0));                                          \
+        SAYS(named(written.refusal, written.place), (says));                \
+        EXPECT(written.length == 0 && unwritten_from(0));                   \
     } while (0)
 
-/* The file is refused by the check, and by the writer whatever its output. */
-static void refuses(struct file *f, uint8_t refusal)
+/* The file in s is refused by every entry at the same place: by the check, by
+ * opening, offering and closing whatever their buffers are, by the writer whatever
+ * its output is. */
+static void refuses(const char *says)
 {
+    struct file *f = &s.file;
+    char line[40];
+
     finish(f);
-    EXPECT(check(f).refusal == refusal);
-    REFUSED(write_it(f, sizeof out), refusal);
-    REFUSED(write_it(f, f->length), refusal);
-    REFUSED(write_it(f, f->length - 1), refusal);
-    REFUSED(write_it(f, 0), refusal);
+    sprintf(line, "refused %s", says);
+    SAYS(checked(f), says);
+    SAYS(open_it(&s), line);
+    SAYS(offer(&s, 200), line);
+    SAYS(close_it(&s), line);
+    SAYS(tell(&s, guard_open(f->bytes, f->length, NULL, 0, NULL, 0)), line);
+    REFUSED(write_it(f, sizeof out), says);
+    REFUSED(write_it(f, f->length), says);
+    REFUSED(write_it(f, f->length - 1), says);
+    REFUSED(write_it(f, 0), says);
 }
 
 static void writes_small_policies(void)
@@ -504,32 +538,277 @@ static void refuses_rules_4_to_10(void)
     with_acase(f, BIT(1));
     writes_again(f);
     f->bytes[6] = 8;
-    refuses(f, 4);
+    refuses("4 at 0");
     one(f, 'L');
     f->bytes[6 + 16 + 1] = 1;
-    refuses(f, 4);
+    refuses("4 at 1");
     two(f, 6, 'L', 'T');
     f->bytes[6 + 2] = 1;
-    refuses(f, 5);
+    refuses("5 at 1");
     f->bytes[6 + 16] = 9; /* the lower number, in a later record */
-    refuses(f, 4);
+    refuses("4 at 1");
     one(f, 'L');
     f->length -= 12;
-    refuses(f, 6);
+    refuses("6 at 0");
     one(f, 'L');
     step(f, 7, 0, 0, 0, 0);
-    refuses(f, 6);
+    refuses("6 at 0");
     one(f, 'W');
     f->bytes[6 + 16 + 3] = 1;
-    refuses(f, 7);
+    refuses("7 at 1");
     with_acase(f, BIT(0) | BIT(1));
-    refuses(f, 8);
+    refuses("8 at 1");
     two(f, 4, 'V', 'W');
-    refuses(f, 9);
-    spread(16, 10);
-    refuses(f, 10);
-    spread(15, 0);
+    refuses("9 at 0");
+    spread(16, "10 at 0");
+    refuses("10 at 0");
+    spread(15, "0");
     writes_again(f);
+}
+
+/* ------------------------------------------------------------------ */
+/* 02, Req 03: "the lowest-numbered node or step that breaks that rule". */
+
+/* The step with this number over the whole file. */
+static uint8_t *step_of(struct file *f, unsigned number)
+{
+    return f->bytes + 6 + 16u * f->bytes[3] + 12u * number;
+}
+
+static uint8_t *node_of(struct file *f, unsigned k)
+{
+    return f->bytes + 6 + 16u * k;
+}
+
+/* "Nodes come before steps, and step i counts as n + i." L has the steps 0 to 4, W
+ * 5 to 7. */
+static void places_of_4(void)
+{
+    struct file *f = &s.file;
+
+    two(f, 6, 'L', 'W');
+    node_of(f, 2)[1] = 1;
+    refuses("4 at 2");
+    step_of(f, 0)[0] = 0; /* a node comes before any step */
+    refuses("4 at 2");
+    node_of(f, 1)[3] = 65;
+    refuses("4 at 1");
+    two(f, 6, 'L', 'W');
+    step_of(f, 7)[11] = 1;
+    refuses("4 at 10");
+    step_of(f, 6)[1] = 1;
+    refuses("4 at 9");
+    step_of(f, 0)[1] = 1;
+    refuses("4 at 3");
+    two(f, 6, 'L', 'W');
+    node_of(f, 0)[1] = 0; /* rule 5, in a lower record */
+    step_of(f, 4)[2] = 1;
+    refuses("4 at 7");
+}
+
+/* Nodes from a list of sides, 0 for a trivial node; n of them. */
+static void tree(struct file *f, unsigned n, const uint8_t sides[][2])
+{
+    start(f, n);
+    for (unsigned k = 0; k < n; k++) {
+        const bool inner = sides[k][0] != 0 || sides[k][1] != 0;
+        node(f, k, inner ? 4 + k % 4 : 2, sides[k][0], sides[k][1], 0, 0, 0);
+    }
+}
+
+#define TREE_REFUSES(says, ...)                                             \
+    do {                                                                    \
+        const uint8_t sides[][2] = {__VA_ARGS__};                           \
+        tree(&s.file, sizeof sides / 2, sides);                             \
+        refuses(says);                                                      \
+    } while (0)
+
+/* "the lowest node that has a bad child or, 0 apart, isn't a child exactly once" */
+static void places_of_5(void)
+{
+    /* 2 has a bad child, but 1 is named twice */
+    TREE_REFUSES("5 at 1", {1, 2}, {0, 0}, {1, 3}, {0, 0});
+    TREE_REFUSES("5 at 0", {1, 3}, {0, 0}, {0, 0});
+    TREE_REFUSES("5 at 2", {1, 2}, {2, 3}, {0, 0}, {0, 0});
+    TREE_REFUSES("5 at 3", {1, 2}, {0, 0}, {0, 0}, {0, 0}); /* named by none */
+    TREE_REFUSES("5 at 3", {1, 2}, {0, 0}, {3, 3}, {0, 0}); /* named twice by one: no bad child */
+    TREE_REFUSES("5 at 3", {1, 2}, {0, 0}, {3, 3}, {0, 0}, {0, 0});
+    TREE_REFUSES("5 at 2", {1, 2}, {0, 0}, {3, 9}, {0, 0});
+    TREE_REFUSES("5 at 2", {1, 2}, {0, 0}, {3, 4}, {0, 0});
+    TREE_REFUSES("5 at 2", {1, 2}, {0, 0}, {4, 3}, {0, 0});
+    TREE_REFUSES("5 at 2", {1, 2}, {0, 0}, {3, 255}, {0, 0});
+    TREE_REFUSES("5 at 2", {1, 2}, {0, 0}, {0, 3}, {0, 0}); /* 0 is a bad child of any */
+    TREE_REFUSES("5 at 1", {2, 3}, {1, 4}, {0, 0}, {0, 0}, {0, 0}); /* its own child */
+    TREE_REFUSES("5 at 1", {2, 3}, {4, 1}, {0, 0}, {0, 0}, {0, 0});
+    TREE_REFUSES("5 at 2", {2, 3}, {0, 0}, {1, 4}, {0, 0}, {0, 0}); /* 1 is named once, if badly */
+    TREE_REFUSES("5 at 1", {2, 3}, {0, 0}, {4, 4}, {0, 0}, {0, 0});
+    TREE_REFUSES("5 at 4", {1, 2}, {3, 4}, {5, 6}, {0, 0}, {4, 7}, {0, 0}, {0, 0}, {0, 0});
+}
+
+/* "For 6 with a wrong sum it is 0"; else the step with the bad target or set. V has
+ * the steps 0 to 4, W 5 to 7. */
+static void places_of_6(void)
+{
+    struct file *f = &s.file;
+
+    two(f, 5, 'V', 'W');
+    step_of(f, 6)[2] = 3; /* outside W */
+    refuses("6 at 6");
+    step_of(f, 2)[2] = 1; /* not later, and no next */
+    refuses("6 at 2");
+    node_of(f, 2)[3] = 4; /* and a wrong sum */
+    refuses("6 at 0");
+    two(f, 5, 'V', 'W');
+    step_of(f, 5)[3] = 255;
+    refuses("6 at 5");
+    two(f, 5, 'V', 'W');
+    step_of(f, 0)[2] = 3; /* breaks rule 7, in a lower step */
+    step_of(f, 7)[0] = 5;
+    step_of(f, 7)[11] = 1; /* an acase with the targets 0, a next, and the set {0} */
+    refuses("6 at 7");
+}
+
+/* One leaf on 1 and 2, behind a trivial node and V when it is to stand later. */
+static void leaf_alone(struct file *f, unsigned count, bool later)
+{
+    start(f, later ? 5 : 1);
+    if (later) {
+        node(f, 0, 5, 1, 2, 0, 0, 0);
+        node(f, 1, 2, 0, 0, 0, 0, 0);
+        node(f, 2, 7, 3, 4, 0, 0, 0);
+        add(f, 3, 'V');
+    }
+    node(f, later ? 4 : 0, 1, 0, 0, count, 0, BIT(1) | BIT(2));
+}
+
+/* Each step is a kind, two targets and a set. */
+static void leaf_refuses(const char *says, const char *says_later, unsigned count,
+                         const uint8_t steps[][4])
+{
+    for (unsigned later = 0; later <= 1; later++) {
+        leaf_alone(&s.file, count, later == 1);
+        for (unsigned i = 0; i < count; i++) {
+            step(&s.file, steps[i][0], 0, steps[i][1], steps[i][2], steps[i][3]);
+        }
+        refuses(later == 1 ? says_later : says);
+    }
+}
+
+/* The leaf's steps; behind V, which has five, its places are greater by 5. */
+#define LEAF_REFUSES(says, says_later, ...)                                 \
+    do {                                                                    \
+        const uint8_t steps[][4] = {__VA_ARGS__};                           \
+        leaf_refuses((says), (says_later), sizeof steps / 4, steps);        \
+    } while (0)
+
+enum { NEXT = 1, OK, SUP, INS, ACASE, SPEND, END, HALT };
+
+/* "The mode rule is broken": over all modes of all steps. */
+static void places_of_7(void)
+{
+    /* a later step, closing, leads back to the next */
+    LEAF_REFUSES("7 at 0", "7 at 5", {NEXT, 1, 2, 0}, {OK, 0, 0, 0}, {SPEND, 0, 3, 0}, {END});
+    /* an acase while closing may not stand and leads nowhere */
+    LEAF_REFUSES("7 at 2", "7 at 7", {NEXT, 1, 2, 0}, {OK, 0, 0, 0}, {ACASE, 0, 0, 0});
+    /* reached idle and closing, a spend leads back in both */
+    LEAF_REFUSES("7 at 0", "7 at 5", {NEXT, 1, 2, 0}, {OK, 2, 0, 0}, {SPEND, 0, 3, 0}, {END});
+    /* reached pending and closing, an acase leads back in the mode in which it may stand */
+    LEAF_REFUSES("7 at 0", "7 at 5", {NEXT, 1, 1, 0}, {ACASE, 0, 2, BIT(1)}, {OK, 0, 0, 0});
+    /* and an ok leads on to idle; the last step is never reached */
+    LEAF_REFUSES("7 at 1", "7 at 6", {NEXT, 1, 1, 0}, {OK, 2, 0, 0}, {END}, {HALT});
+    /* its own take target: the next is reached pending */
+    LEAF_REFUSES("7 at 0", "7 at 5", {NEXT, 0, 1, 0}, {END});
+    /* a next that nothing leads to is reached idle */
+    LEAF_REFUSES("7 at 4", "7 at 9", {END}, {NEXT, 2, 3, 0}, {OK, 1, 0, 0}, {END}, {HALT});
+    /* and so is one that is reached pending: it leads on, here to a spend that leads back */
+    LEAF_REFUSES("7 at 0", "7 at 5", {NEXT, 1, 4, 0}, {NEXT, 2, 3, 0}, {OK, 0, 0, 0},
+                 {SPEND, 0, 4, 0}, {END});
+    /* a next that nothing but a closing step leads to */
+    LEAF_REFUSES("7 at 1", "7 at 6", {END}, {NEXT, 2, 3, 0}, {OK, 1, 0, 0}, {SPEND, 1, 4, 0},
+                 {END});
+    /* a step in two modes before one that is never reached, and after one */
+    LEAF_REFUSES("7 at 2", "7 at 7", {NEXT, 1, 2, 0}, {OK, 2, 0, 0}, {END}, {HALT});
+    LEAF_REFUSES("7 at 1", "7 at 6", {NEXT, 2, 3, 0}, {HALT}, {OK, 3, 0, 0}, {END});
+    /* a step never reached leads nowhere */
+    LEAF_REFUSES("7 at 3", "7 at 8", {NEXT, 1, 2, 0}, {OK, 0, 0, 0}, {END}, {SPEND, 0, 4, 0},
+                 {HALT});
+    /* rule 8 is broken in a lower step */
+    LEAF_REFUSES("7 at 4", "7 at 9", {NEXT, 1, 3, 0}, {ACASE, 2, 2, BIT(1) | BIT(2)},
+                 {OK, 0, 0, 0}, {END}, {HALT});
+    /* two nexts that share their targets; the end is reached closing and idle */
+    LEAF_REFUSES("7 at 4", "7 at 9", {SPEND, 1, 2, 0}, {NEXT, 3, 4, 0}, {NEXT, 3, 4, 0},
+                 {OK, 4, 0, 0}, {END});
+}
+
+static void places_of_8(void)
+{
+    LEAF_REFUSES("8 at 1", "8 at 6", {NEXT, 1, 3, 0}, {ACASE, 2, 2, BIT(1) | BIT(2)},
+                 {OK, 0, 0, 0}, {END});
+    /* a second acase that the first has settled */
+    LEAF_REFUSES("8 at 2", "8 at 7", {NEXT, 1, 4, 0}, {ACASE, 2, 3, BIT(1)},
+                 {ACASE, 3, 3, BIT(1)}, {OK, 0, 0, 0}, {END});
+    /* two of them */
+    LEAF_REFUSES("8 at 2", "8 at 7", {NEXT, 1, 5, 0}, {ACASE, 2, 3, BIT(1)},
+                 {ACASE, 3, 4, BIT(2)}, {ACASE, 4, 4, 0}, {OK, 0, 0, 0}, {END});
+    /* a spend passes the set on to no as well */
+    LEAF_REFUSES("8 at 4", "8 at 9", {NEXT, 1, 6, 0}, {SPEND, 2, 3, 0}, {OK, 0, 0, 0},
+                 {ACASE, 4, 5, BIT(1)}, {ACASE, 5, 5, BIT(2)}, {OK, 0, 0, 0}, {END});
+    /* joined, what a spend and an ins pass on is the whole set again */
+    LEAF_REFUSES("8 at 5", "8 at 10", {NEXT, 1, 7, 0}, {ACASE, 2, 3, BIT(1)}, {SPEND, 4, 4, 0},
+                 {INS, 4, 0, 0}, {ACASE, 5, 6, BIT(2)}, {ACASE, 6, 6, BIT(1)}, {OK, 0, 0, 0},
+                 {END});
+}
+
+/* A leaf that inserts so many times before it accepts. */
+static void add_inserts(struct file *f, unsigned k, unsigned inserts)
+{
+    node(f, k, 1, 0, 0, inserts + 3, 0, BIT(k));
+    step(f, NEXT, 0, 1, inserts + 2, 0);
+    for (unsigned i = 1; i <= inserts; i++) {
+        step(f, INS, 9, i + 1, 0, 0);
+    }
+    step(f, OK, 0, 0, 0, 0);
+    step(f, END, 0, 0, 0, 0);
+}
+
+/* "For 9 and 10 it is the node." */
+static void places_of_9_and_10(void)
+{
+    struct file *f = &s.file;
+
+    start(f, 5); /* L, then V and W side by side */
+    node(f, 0, 5, 1, 2, 0, 0, 0);
+    add(f, 1, 'L');
+    node(f, 2, 6, 3, 4, 0, 0, 0);
+    add(f, 3, 'V');
+    add(f, 4, 'W');
+    refuses("9 at 2");
+    node_of(f, 2)[0] = 4;
+    refuses("9 at 2");
+    node_of(f, 0)[0] = 4; /* L has no part in it */
+    refuses("9 at 2");
+
+    start(f, 7); /* twice, under a sequential node */
+    node(f, 0, 7, 2, 1, 0, 0, 0);
+    node(f, 1, 4, 3, 4, 0, 0, 0);
+    node(f, 2, 6, 5, 6, 0, 0, 0);
+    add(f, 3, 'W');
+    add(f, 4, 'W');
+    add(f, 5, 'V');
+    add(f, 6, 'W');
+    refuses("9 at 1");
+    node_of(f, 1)[0] = 5;
+    refuses("9 at 2");
+    node_of(f, 0)[0] = 6;
+    refuses("9 at 0");
+
+    start(f, 5); /* 271 at node 2, and no less at the root */
+    node(f, 0, 4, 1, 2, 0, 0, 0);
+    add(f, 1, 'T');
+    node(f, 2, 7, 3, 4, 0, 0, 0);
+    add_inserts(f, 3, 15);
+    add_inserts(f, 4, 16);
+    refuses("10 at 0");
 }
 
 /* "3 for a broken record too": lengths that aren't of whole records, also where
@@ -542,12 +821,12 @@ static void refuses_broken_records(void)
     for (size_t n = 0; n <= 48; n++) {
         for (size_t m = 0; m <= 72; m++) {
             if (n % 16 != 0 || m % 12 != 0) {
-                REFUSED(write_records(nodes, n, steps, m, m % 2 == 0 ? sizeof out : 0), 3);
+                REFUSED(write_records(nodes, n, steps, m, m % 2 == 0 ? sizeof out : 0), "3");
             }
         }
     }
-    REFUSED(write_records(nodes, 0, steps, 60, sizeof out), 3);
-    REFUSED(write_records(NULL, 0, NULL, 0, 0), 3);
+    REFUSED(write_records(nodes, 0, steps, 60, sizeof out), "3");
+    REFUSED(write_records(NULL, 0, NULL, 0, 0), "3");
 }
 
 /* Counts at the ends of their ranges, and around; also such as are the same in
@@ -574,26 +853,28 @@ static void refuses_counts(void)
     finish(f);
     EXPECT(f->length == 6646);
     writes_again(f);
+    f->bytes[6645] = 1; /* the last byte of the last step: the greatest place */
+    refuses("4 at 542");
 
     one(f, 'T');
     memcpy(nodes, f->bytes + 6, 16);
     EXPECT(write_records(nodes, 16, NULL, 0, sizeof out).refusal == 0);
-    REFUSED(guard_write(nodes, 16, NULL, 0, memset(out, 0xA5, sizeof out), 21), 15);
+    REFUSED(guard_write(nodes, 16, NULL, 0, memset(out, 0xA5, sizeof out), 21), "15");
     EXPECT(guard_write(nodes, 16, NULL, 0, NULL, 0).refusal == 15);
-    EXPECT(write_records(nodes, 16 * 31, NULL, 0, sizeof out).refusal == 4);
-    REFUSED(write_records(nodes, 16 * 32, NULL, 0, sizeof out), 3);
-    REFUSED(write_records(nodes, 16 * 33, NULL, 0, sizeof out), 3);
-    REFUSED(write_records(nodes, 16 * 257, NULL, 0, sizeof out), 3);
+    REFUSED(write_records(nodes, 16 * 31, NULL, 0, sizeof out), "4 at 1");
+    REFUSED(write_records(nodes, 16 * 32, NULL, 0, sizeof out), "3");
+    REFUSED(write_records(nodes, 16 * 33, NULL, 0, sizeof out), "3");
+    REFUSED(write_records(nodes, 16 * 257, NULL, 0, sizeof out), "3");
     one(f, 'L');
     memcpy(nodes, f->bytes + 6, 16);
     for (unsigned i = 0; i < 5500; i++) {
         memcpy(steps + 12 * i, f->bytes + 22 + (i < 5 ? 12 * i : 48), 12);
     }
     EXPECT(write_records(nodes, 16, steps, 12 * 5, sizeof out).refusal == 0);
-    EXPECT(write_records(nodes, 16, steps, 12 * 512, sizeof out).refusal == 6);
-    REFUSED(write_records(nodes, 16, steps, 12 * 513, sizeof out), 3);
-    REFUSED(write_records(nodes, 16, steps, 12 * 517, 82), 3);
-    REFUSED(write_records(nodes, 16 * 1025, steps, 12 * 4101, 82), 3); /* 65,536 bytes more */
+    REFUSED(write_records(nodes, 16, steps, 12 * 512, sizeof out), "6 at 0");
+    REFUSED(write_records(nodes, 16, steps, 12 * 513, sizeof out), "3");
+    REFUSED(write_records(nodes, 16, steps, 12 * 517, 82), "3");
+    REFUSED(write_records(nodes, 16 * 1025, steps, 12 * 4101, 82), "3"); /* 65,536 bytes more */
 }
 
 /* ------------------------------------------------------------------ */
@@ -660,8 +941,6 @@ static void counts_two_sides(void)
     SAYS(open_it(&s), "=4");
     EXPECT(panel() == 0 && record(&s, 1)[0] == GUARD_DROPPED);
 }
-
-enum { END = 7, HALT = 8 };
 
 /* L beside a node of V and a leaf that ends or halts on 1: where that decides the
  * node, V is dropped. */
@@ -849,13 +1128,19 @@ int main(int argc, char **argv)
     p1_to_p5();
     p6_to_p11();
     guardrun_example();
-    spread(15, 0);
-    spread(16, 10);
+    spread(15, "0");
+    spread(16, "10 at 0");
     feeding();
     halting();
-    EXPECT(guard_check(NULL, 0).refusal == 1);
+    EXPECT(guard_check(NULL, 0).refusal == 1 && !guard_check(NULL, 0).place.given);
     writes_small_policies();
     refuses_rules_4_to_10();
+    places_of_4();
+    places_of_5();
+    places_of_6();
+    places_of_7();
+    places_of_8();
+    places_of_9_and_10();
     refuses_broken_records();
     refuses_counts();
     counts_one_leaf();

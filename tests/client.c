@@ -15,16 +15,22 @@ static void fail(const char *what, unsigned long call)
 static struct field policy, state, events;
 static uint8_t kept[MAX_FIELD], their_state[MAX_FIELD], their_events[MAX_FIELD];
 
+/* The same refusal, and the same place or none. */
+static bool same_refusal(fretmere_answer ours, uint8_t refusal, guard_place place)
+{
+    return fretmere_refusal(ours) == refusal && fretmere_place(ours) == (place.given ? (int)place.number : FRETMERE_NO_PLACE);
+}
+
 static void compare_check(unsigned long call)
 {
     const guard_sets theirs = guard_check(policy.bytes, policy.length);
     uint64_t sets[4] = {7, 8, 9, 10};
-    const uint8_t refusal = fretmere_check(policy.bytes, policy.length, &sets[1], &sets[2]);
+    const fretmere_answer ours = fretmere_check(policy.bytes, policy.length, &sets[1], &sets[2]);
 
-    if (refusal != theirs.refusal) {
+    if (!same_refusal(ours, theirs.refusal, theirs.place)) {
         fail("another refusal of the check", call);
     }
-    if (refusal == FRETMERE_NOT_REFUSED ? sets[1] != theirs.regulated.bits || sets[2] != theirs.effect.bits : sets[1] != 8 || sets[2] != 9) {
+    if (ours == FRETMERE_NOT_REFUSED ? sets[1] != theirs.regulated.bits || sets[2] != theirs.effect.bits : sets[1] != 8 || sets[2] != 9) {
         fail("other sets", call);
     }
     if (sets[0] != 7 || sets[3] != 10) {
@@ -63,7 +69,7 @@ static void compare_call(int entry, uint8_t action, unsigned long call)
     const guard_answer theirs = their_answer(entry, action);
     const fretmere_answer ours = our_answer(entry, action);
 
-    if (fretmere_refusal(ours) != theirs.refusal || fretmere_status(ours) != theirs.status || fretmere_events(ours) != theirs.events) {
+    if (!same_refusal(ours, theirs.refusal, theirs.place) || fretmere_status(ours) != theirs.status || fretmere_events(ours) != theirs.events) {
         fail("another answer", call);
     }
     if (memcmp(state.bytes, their_state, state.length) != 0 || memcmp(events.bytes, their_events, events.length) != 0) {
@@ -77,9 +83,9 @@ static void compare_write(unsigned long call)
     memcpy(their_state, state.bytes, state.length);
     memcpy(their_events, events.bytes, events.length);
     const guard_written theirs = guard_write(policy.bytes, policy.length, state.bytes, state.length, their_events, events.length);
-    const uint32_t ours = fretmere_write(policy.bytes, policy.length, state.bytes, state.length, events.bytes, events.length);
+    const fretmere_answer ours = fretmere_write(policy.bytes, policy.length, state.bytes, state.length, events.bytes, events.length);
 
-    if (fretmere_refusal(ours) != theirs.refusal || (theirs.refusal == 0 && ours != theirs.length)) {
+    if (!same_refusal(ours, theirs.refusal, theirs.place) || fretmere_length(ours) != theirs.length) {
         fail("another answer of the writer", call);
     }
     if (memcmp(state.bytes, their_state, state.length) != 0) {
@@ -145,7 +151,8 @@ static void small_calls(void)
     fretmere_answer answer;
 
     expect(fretmere_check(L, sizeof L, &regulated, &effects) == FRETMERE_NOT_REFUSED && regulated == 4 && effects == 0, "P1");
-    expect(fretmere_check(L, sizeof L - 1, &regulated, &effects) == FRETMERE_REFUSED_LENGTH, "a byte short");
+    answer = fretmere_check(L, sizeof L - 1, &regulated, &effects);
+    expect(fretmere_refusal(answer) == FRETMERE_REFUSED_LENGTH && fretmere_place(answer) == FRETMERE_NO_PLACE, "a byte short");
     answer = fretmere_open(L, sizeof L, saved, sizeof saved, room, sizeof room);
     expect(fretmere_status(answer) == FRETMERE_RUNNING && fretmere_events(answer) == 0, "P2, opening");
     expect(fretmere_running_leaves(saved, sizeof saved) == 1, "a running leaf");
@@ -165,7 +172,29 @@ static void small_calls(void)
     answer = fretmere_offer(L, sizeof L, saved, sizeof saved, room, sizeof room, 2);
     expect(fretmere_refusal(answer) == FRETMERE_REFUSED_HALTED && fretmere_events(answer) == 0, "a halted root");
     answer = fretmere_open(L, sizeof L, saved, sizeof saved, room, sizeof room - 1);
-    expect(fretmere_refusal(answer) == FRETMERE_REFUSED_BUFFERS, "a short event buffer");
+    expect(fretmere_refusal(answer) == FRETMERE_REFUSED_BUFFERS && fretmere_place(answer) == FRETMERE_NO_PLACE, "a short event buffer");
+}
+
+/* L with a target of its step 2 outside the leaf: refused 6 at 2 by every function that checks, and nothing told besides. */
+static void places(void)
+{
+    enum { STEPS = 22, STEP = 12, WRONG = 2, TARGET = 2 };
+    uint8_t wrong[sizeof L], saved[FRETMERE_STATE_BYTES] = {0}, room[FRETMERE_EVENT_BYTES];
+    uint64_t regulated, effects;
+
+    memcpy(wrong, L, sizeof L);
+    wrong[STEPS + STEP * WRONG + TARGET] = 5;
+    const fretmere_answer answers[] = {
+        fretmere_check(wrong, sizeof wrong, &regulated, &effects),
+        fretmere_open(wrong, sizeof wrong, saved, sizeof saved, room, sizeof room),
+        fretmere_offer(wrong, sizeof wrong, saved, sizeof saved, room, sizeof room, 2),
+        fretmere_close(wrong, sizeof wrong, saved, sizeof saved, room, sizeof room),
+        fretmere_write(wrong + STEPS - 16, 16, wrong + STEPS, sizeof wrong - STEPS, room, sizeof room),
+    };
+    for (size_t i = 0; i < sizeof answers / sizeof *answers; i++) {
+        expect(fretmere_refusal(answers[i]) == FRETMERE_REFUSED_TARGET && fretmere_place(answers[i]) == WRONG, "6 at 2");
+        expect(fretmere_status(answers[i]) == 0 && fretmere_events(answers[i]) == 0 && fretmere_length(answers[i]) == 0, "a refusal tells more");
+    }
 }
 
 /* The header's helpers, on a leaf that inserts twice before its verdict and once after it: set {0}; 0 next 1/5, 1 ins 3 to 2, 2 ins 6 to 3,
@@ -195,6 +224,7 @@ int main(void)
 {
     helpers();
     small_calls();
+    places();
     printf("client: the small calls and %lu of a batch as they should be\n", compare_batch());
     return 0;
 }

@@ -6,7 +6,7 @@ of the first that differ, counted from 0. Stops where an output has not just the
 import sys
 
 CHECK, WRITE, FIELDS = 0, 4, 3            # the entries that check and write; fields of a call
-CHECK_ANSWER, WRITTEN, REPLY = 17, 3, 4   # bytes of a check's answer, of a write's before its output, of another's before its two buffers
+CHECK_ANSWER, WRITTEN, REPLY = 19, 5, 6   # bytes of a check's answer, of a write's before its output, of another's before its two buffers
 
 
 def answer_size(entry, sizes):

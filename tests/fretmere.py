@@ -114,12 +114,18 @@ def try_write():
     expect(plain == (0, to.read_bytes(), ""), "a named source gives the file of the plain one")
     gone = ROOM / "not-written"
     fails(1, r"bad.text, line 2: expected next TAKE DONE\n    next 1", "write", kept("bad.text", "leaf {1} 0\n  next 1 # x\n"), "-o", gone)
-    fails(1, "refused 7: a step is never reached", "write", kept("never.text", "leaf {1} 0\nnext 1 2\nok 0\nend\nend\n"), "-o", gone)
+    fails(1, r"refused 7: a step is never reached.*\n    .*never.text, line 6: step 3 of leaf 0, `end`", "write",
+          kept("never.text", "# never\nleaf {1} 0\nnext 1 2\nok 0\nend\nend # this one\n"), "-o", gone)
+    fails(1, r"refused 5: .*\n    .*twice.text, line 4: node 1, `only: trivial`", "check", kept("twice.text", "# both\n\nor only only\nonly: trivial\n"))
+    fails(1, "refused 3: [^\n]*\n$", "write", kept("none.text", "# no node\n"), "-o", gone)
     expect(not gone.exists(), "a refused text leaves no file")
     fails(1, "is no text", "write", HERE / "samples/widened.policy")
     fails(1, "No such file", "write", ROOM / "nowhere")
     fails(1, "nowhere/x: No such file", "write", HERE / "samples/widened.text", "-o", ROOM / "nowhere/x")
     fails(1, "line 1: expected end", "write", kept("end.text", "end 1\n"), "-o", gone)
+    for said in (("line 1: end\\n", "", 0), ("", "cannot\\n", 0), ("refused 3\\n", "refused 3\\n", 0)):  # neither a file nor a message
+        fails(2, "said neither a file nor what is wrong", "write", kept("end.text", "end 1\n"), "-o", gone, FRETMERE_PROGRAMS=played(guardwrite=said))
+    expect(not gone.exists(), "a message is never taken for a file")
 
 
 def try_names():
@@ -162,21 +168,67 @@ def try_text():
     fails(1, "is not the source of", "text", policy, "--source", HERE / "samples/widened.text")
     fails(2, "--source goes with a policy file", "text", source, "--source", source)
     fails(1, "refused 1: the file has fewer", "text", kept("short", b"\0\x05\1"))
+    fails(1, "refused 2: the version", "text", kept("version", stored.broken(stored.W, version=2)))
+    odd = stored.broken(stored.W, ("node", 0, "count", 2), ("step", 1, "kind", 9))
+    status, shown, err = fretmere("text", kept("odd.policy", odd))
+    expect(status == 1 and shown == b"# refused 4 at 2: step 1 of leaf 0\nleaf {3} 0  # node 0\n  next 1 2  # step 0\n  # step 1: 9 0 0 0 0 0 0 0 0 0 0 0\n"
+           b"# steps of no leaf\n  end  # step 2\n" and "refused 4: a field" in err and err.endswith("\n    step 1 of leaf 0\n"), "a refused file is shown")
 
 
 def stored_file(text):
     return programs.file_of(text.encode())
 
 
+def figures(policy):
+    """The root's regulated set, effect set and spread, by 01's sentences."""
+    nodes, steps, _ = stored.lay_out(policy)
+    firsts = [sum(node["count"] for node in nodes[:number]) for number in range(len(nodes))]
+    kinds = stored.STEP_KINDS
+
+    def leaf(node, code):
+        effects, possible = 0, [0] * len(code)
+        for here, step in zip(possible, code):  # every step but a next leads on, so what is possible at one is known when it is come to
+            passed = {kinds["next"]: (node["set"], 0), kinds["ins"]: (here, 0), kinds["spend"]: (here, here),
+                      kinds["acase"]: (here & step["operand"], here & ~step["operand"])}.get(step["kind"], (0, 0))
+            possible[step["first"]] |= passed[0]
+            possible[step["second"]] |= passed[1]
+            effects |= here if step["kind"] == kinds["sup"] else 1 << step["action"] if step["kind"] == kinds["ins"] else 0
+        return node["set"], effects, sum(step["kind"] == kinds["ins"] for step in code)
+
+    def under(number):
+        node = nodes[number]
+        if node["kind"] == 1:
+            return leaf(node, steps[firsts[number]:firsts[number] + node["count"]])
+        if node["kind"] in (2, 3):
+            return 0, 0, 0
+        left, right = under(node["left"]), under(node["right"])
+        spread = left[2] + right[2] if node["kind"] in (4, 6) else (1 + left[2]) * (1 + right[2]) - 1
+        return left[0] | right[0], left[1] | right[1], spread
+
+    return under(0)
+
+
 def try_check():
-    for path in sorted((HERE / "samples").glob("*.policy")):
-        status, out, _ = fretmere("check", path)
-        expect(status == 0 and out.startswith(f"{path} passes\n".encode()), f"check {path.name}")
+    for sample in stored.SAMPLES:
+        path = HERE / f"samples/{sample['name']}.policy"
+        *sets, spread = figures(sample["policy"])
+        regulated, effects = ("{" + ", ".join(str(a) for a in range(64) if own >> a & 1) + "}" for own in sets)
+        says(f"{path} passes\nregulated: {regulated}\neffects: {effects}\nspread: {spread}\n", "check", path)
     for path in sorted((HERE / "tests/runs").glob("*-refused-*.input")):
         given, said = path.read_bytes(), programs.refusal(path.with_suffix(".output").read_bytes())
         if said:
             fails(1, rf"is refused {said.number}: ", "check", kept("refused", given[:int.from_bytes(given[:2], "big")]))
     fails(1, "is refused 1: ", "check", HERE / "samples/widened.input")  # more bytes than its length says
+    fails(1, r"refused 9: one side .*\n    node 0\n$", "check", kept("beside", stored.file_of(("parallel and", stored.W, stored.W))))
+    fails(1, r"refused 7: a step .*\n    step 2 of leaf 2\n$", "check",
+          kept("twice", stored.broken(("sequential and", stored.V, stored.W), ("step", 6, "first", 2))))
+    path = kept("V-then-W", stored.file_of(("sequential and", stored.V, stored.W)))
+    says(f"{path} passes\nregulated: {{3, 4}}\neffects: {{3, 4}}\nspread: 2\n", "check", path)
+    path = kept("none", stored.file_of(stored.UNSATISFIABLE))
+    says(f"{path} passes\nregulated: {{}}\neffects: {{}}\nspread: 0\n", "check", path)
+    path = kept("named.text", NAMED)
+    says(f"{path} passes\nregulated: {{reheat (5)}}\neffects: {{reheat (5), scrap (6)}}\nspread: 1\n", "check", path)
+    fails(2, "guardcheck is not in ", "check", HERE / "samples/small-trivial.policy", FRETMERE_PROGRAMS=played(guardtext=("trivial  # node 0\\n", "", 0)))
 
 
 def ran(given):

@@ -37,11 +37,6 @@ def tried(block, folder):
     return "".join(f"{line}\n{printed(line[2:], folder)}" for line in commands)
 
 
-def places_apart(page):
-    """The page without the lines that say a refusal's place: programs that do not tell it yet are held to the rest."""
-    return re.sub(r"^    \S+\.text, line \d+: (node|step) .*\n", "", page, flags=re.MULTILINE)
-
-
 def taken_apart():
     """The bytes of the file that docs/FORMAT.md takes apart, up to the saved state, at the places that it says."""
     page = (HERE / "docs/FORMAT.md").read_text().partition("## The saved state")[0]
@@ -60,7 +55,7 @@ def main(asked):
         now = BLOCK.sub(lambda found: f"```\n{tried(found[1], pathlib.Path(folder))}```\n", page)
     if asked == "make":
         PAGE.write_text(now)
-    elif places_apart(now) != places_apart(page):
+    elif now != page:
         sys.exit("differs: docs/POLICIES.md shows something else than the programs print (tests/shown.py make)")
     print(f"shown: {page.count(chr(10) + '$ ')} commands of {PAGE.name} as the programs have it")
 

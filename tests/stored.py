@@ -643,8 +643,10 @@ def listed(text):
     return [line.strip() for line in text.split(",") if line.strip()]
 
 
-def refused(number, name, shows, policy, actions=(2, 2)):
-    run(f"refused-{number}-{name}", shows, policy, actions, f"refused {number}")
+def refused(number, name, shows, policy, actions=(2, 2), at=None):
+    """A refused policy; at is the record to blame, which 02's Req 03 has printed with 4 to 10."""
+    assert (at is not None) == (4 <= number <= 10), name
+    run(f"refused-{number}-{name}", shows, policy, actions, f"refused {number}" + ("" if at is None else f" at {at}"))
 
 
 run("example", "01's own example: V sequential-and W, then 4, 3", ("sequential and", V, W), [4, 3],
@@ -672,63 +674,63 @@ refused(3, "513-steps", "m is 513, in a file of the fitting length", as_bytes(
 refused(3, "says-81", "L's file, but it says 81: 81 bytes are taken, and that isn't 6 + 16n + 12m",
         broken(L, length=81))
 # Rule 4
-refused(4, "empty-set", "a leaf with an empty set", broken(L, ("node", 0, "set", 0)))
-refused(4, "node-kind-8", "a node of kind 8", broken(L, ("node", 0, "kind", 8)))
-refused(4, "leaf-with-left", "a leaf whose left isn't zero", broken(L, ("node", 0, "left", 1)))
+refused(4, "empty-set", "a leaf with an empty set", broken(L, ("node", 0, "set", 0)), at=0)
+refused(4, "node-kind-8", "a node of kind 8", broken(L, ("node", 0, "kind", 8)), at=0)
+refused(4, "leaf-with-left", "a leaf whose left isn't zero", broken(L, ("node", 0, "left", 1)), at=0)
 refused(4, "trivial-counter", "a trivial node with a counter", broken(
-    ("parallel and", L, TRIVIAL), ("node", 2, "counter", 1)))
+    ("parallel and", L, TRIVIAL), ("node", 2, "counter", 1)), at=2)
 refused(4, "and-with-set", "a parallel and with a set of its own", broken(
-    ("parallel and", L, TRIVIAL), ("node", 0, "set", 4)))
-refused(4, "65-steps", "a leaf of 65 steps", broken(L, ("node", 0, "count", 65)))
-refused(4, "step-kind-0", "a step of kind 0", broken(L, ("step", 4, "kind", 0)))
+    ("parallel and", L, TRIVIAL), ("node", 0, "set", 4)), at=0)
+refused(4, "65-steps", "a leaf of 65 steps", broken(L, ("node", 0, "count", 65)), at=0)
+refused(4, "step-kind-0", "a step of kind 0", broken(L, ("step", 4, "kind", 0)), at=5)
 refused(4, "ok-second-target", "an ok with something in its second target", broken(
-    L, ("step", 2, "second", 4)))
-refused(4, "ins-64", "an ins of action 64", broken(V, ("step", 2, "action", 64)))
-refused(4, "spend-too-much", "a spend of 4,294,967,296", broken(L, ("step", 1, "operand", 1 << 32)))
+    L, ("step", 2, "second", 4)), at=3)
+refused(4, "ins-64", "an ins of action 64", broken(V, ("step", 2, "action", 64)), at=3)
+refused(4, "spend-too-much", "a spend of 4,294,967,296", broken(L, ("step", 1, "operand", 1 << 32)), at=2)
 # Rule 5
 refused(5, "own-child", "node 1 is its own left side and 4 its right, the root has 2 and 3: each is a child once",
-        as_bytes([bare("parallel and", 2, 3), bare("parallel and", 1, 4)] + [bare("trivial")] * 3, []))
+        as_bytes([bare("parallel and", 2, 3), bare("parallel and", 1, 4)] + [bare("trivial")] * 3, []), at=1)
 refused(5, "child-smaller", "the root has 2 and 3, node 2 has 1 and 4: each is a child once, but 1 is less than 2",
         as_bytes([bare("parallel and", 2, 3), bare("trivial"), bare("parallel and", 1, 4)]
-                 + [bare("trivial")] * 2, []))
+                 + [bare("trivial")] * 2, []), at=2)
 refused(5, "child-of-two", "node 2 belongs to the root and to node 1",
-        as_bytes([bare("parallel and", 1, 2), bare("parallel and", 2, 3)] + [bare("trivial")] * 2, []))
+        as_bytes([bare("parallel and", 1, 2), bare("parallel and", 2, 3)] + [bare("trivial")] * 2, []), at=2)
 refused(5, "child-too-great", "the right side is node 3 of nodes 0 to 2", broken(
-    ("parallel and", L, TRIVIAL), ("node", 0, "right", 3)))
+    ("parallel and", L, TRIVIAL), ("node", 0, "right", 3)), at=0)
 refused(5, "no-parent", "a leaf as the root and a second node", as_bytes(
-    lay_out(L)[0] + lay_out(TRIVIAL)[0], lay_out(L)[1]))
+    lay_out(L)[0] + lay_out(TRIVIAL)[0], lay_out(L)[1]), at=1)
 # Rule 6
 refused(6, "sum", "L's file with a sixth step that no leaf owns",
-        as_bytes(lay_out(L)[0], lay_out(L)[1] + lay_out(L)[1][-1:]))
+        as_bytes(lay_out(L)[0], lay_out(L)[1] + lay_out(L)[1][-1:]), at=0)
 refused(6, "target-outside", "a target 5 in a leaf of steps 0 to 4",
-        "set {2}, counter 3; 0 next 1/5, 1 spend 1 2/3, 2 ok 0, 3 halt, 4 end.")
+        "set {2}, counter 3; 0 next 1/5, 1 spend 1 2/3, 2 ok 0, 3 halt, 4 end.", at=0)
 refused(6, "back-to-no-next", "an ok that leads back to a spend",
-        "set {2}, counter 3; 0 next 1/4, 1 spend 1 2/3, 2 ok 1, 3 halt, 4 end.")
+        "set {2}, counter 3; 0 next 1/4, 1 spend 1 2/3, 2 ok 1, 3 halt, 4 end.", at=2)
 refused(6, "acase-outside", "an acase on action 3, which the leaf doesn't regulate",
-        "set {1, 2}; 0 next 1/4, 1 acase {2, 3} 2/3, 2 ok 0, 3 sup 0, 4 end.")
+        "set {1, 2}; 0 next 1/4, 1 acase {2, 3} 2/3, 2 ok 0, 3 sup 0, 4 end.", at=1)
 # Rule 7
-refused(7, "ok-idle", "an ok with no action pending", "set {2}; 0 ok 1, 1 next 2/3, 2 ok 1, 3 end.")
+refused(7, "ok-idle", "an ok with no action pending", "set {2}; 0 ok 1, 1 next 2/3, 2 ok 1, 3 end.", at=0)
 refused(7, "acase-closing", "an acase while closing",
-        "set {1, 2}; 0 next 1/2, 1 ok 0, 2 acase {2} 3/4, 3 end, 4 halt.")
+        "set {1, 2}; 0 next 1/2, 1 ok 0, 2 acase {2} 3/4, 3 end, 4 halt.", at=2)
 refused(7, "two-modes", "an end reached after an ok (idle) and from done (closing)",
-        "set {2}; 0 next 1/2, 1 ok 2, 2 end.")
+        "set {2}; 0 next 1/2, 1 ok 2, 2 end.", at=2)
 refused(7, "next-pending", "an ins before the verdict that leads back to the next",
-        "set {2}; 0 next 1/2, 1 ins 9 to 0, 2 end.")
+        "set {2}; 0 next 1/2, 1 ins 9 to 0, 2 end.", at=0)
 refused(7, "never-reached", "a step that nothing leads to",
-        "set {2}; 0 next 1/2, 1 ok 0, 2 end, 3 halt.")
+        "set {2}; 0 next 1/2, 1 ok 0, 2 end, 3 halt.", at=3)
 # Rule 8
 refused(8, "whole-set", "an acase on the leaf's whole set: nothing takes no",
-        "set {1, 2}; 0 next 1/4, 1 acase {1, 2} 2/3, 2 ok 0, 3 sup 0, 4 end.")
+        "set {1, 2}; 0 next 1/4, 1 acase {1, 2} 2/3, 2 ok 0, 3 sup 0, 4 end.", at=1)
 refused(8, "asked-again", "a second acase after a first one has settled it",
-        "set {1, 2, 3}; 0 next 1/6, 1 acase {1, 2} 2/5, 2 acase {3} 3/4, 3 ok 0, 4 ok 0, 5 sup 0, 6 end.")
+        "set {1, 2, 3}; 0 next 1/6, 1 acase {1, 2} 2/5, 2 acase {3} 3/4, 3 ok 0, 4 ok 0, 5 sup 0, 6 end.", at=2)
 # Rule 9
-refused(9, "V-and-W", "01's P4: V inserts what W regulates", ("parallel and", V, W), [4, 3])
-refused(9, "W-and-W", "01's P5: both suppress what both regulate", ("parallel and", W, W), [3])
-refused(9, "or", "the same with a parallel or", ("parallel or", W, V), [4, 3])
+refused(9, "V-and-W", "01's P4: V inserts what W regulates", ("parallel and", V, W), [4, 3], at=0)
+refused(9, "W-and-W", "01's P5: both suppress what both regulate", ("parallel and", W, W), [3], at=0)
+refused(9, "or", "the same with a parallel or", ("parallel or", W, V), [4, 3], at=0)
 refused(9, "file-and-log", "002's fileAccess with a log in parallel (samples/file-log: in sequence)",
-        ("parallel and", FILE_A, LOG), [20, 23])
+        ("parallel and", FILE_A, LOG), [20, 23], at=0)
 refused(9, "deep", "V and W in parallel below the root's right side",
-        ("sequential and", L, ("sequential or", TRIVIAL, ("parallel and", V, W))), [4, 3])
+        ("sequential and", L, ("sequential or", TRIVIAL, ("parallel and", V, W))), [4, 3], at=4)
 
 
 # Rule 10
@@ -741,17 +743,17 @@ def inserts(name, regulated, count, action):
 
 
 refused(10, "271", "15 and 16 inserts in sequence: a spread of 271",
-        ("sequential and", inserts("left", "0", 15, 1), inserts("right", "0, 1", 16, 9)), [0])
+        ("sequential and", inserts("left", "0", 15, 1), inserts("right", "0, 1", 16, 9)), [0], at=0)
 refused(10, "sum-256", "a parallel node of 255 and 1: a spread of 256",
         ("parallel and", ("sequential or", inserts("left", "0", 15, 1), inserts("right", "0, 1", 15, 9)),
-         inserts("more", "2", 1, 10)), [0])
+         inserts("more", "2", 1, 10)), [0], at=0)
 # More than one rule broken
 refused(7, "lowest-of-7-8-9", "a leaf breaks rule 8, a later one rule 7, and the two interfere: the lowest number",
         ("parallel and", "set {1, 2}; 0 next 1/4, 1 acase {1, 2} 2/3, 2 ok 0, 3 sup 0, 4 end.",
-         "set {1, 2}; 0 next 1/2, 1 ok 0, 2 end, 3 halt."), [1])
+         "set {1, 2}; 0 next 1/2, 1 ok 0, 2 end, 3 halt."), [1], at=8)
 refused(9, "lowest-of-9-10", "a spread above 255 in one place, sides that interfere in another: the lowest number",
         ("sequential and", ("sequential and", inserts("left", "0", 15, 1), inserts("right", "0, 1", 16, 9)),
-         ("parallel and", W, V)), [0])
+         ("parallel and", W, V)), [0], at=4)
 
 # Actions
 run("refused-action", "bytes above 63 are refused 13 and the run goes on", L, [2, 64, 1, 255, 2, 13],
@@ -1002,6 +1004,34 @@ run("200-actions-furnace", "samples/brazing-furnace on 200 mixed actions, 0 to 6
     furnace_by_hand(MIXED))
 
 
+# Places: the record to blame is not the first of the file, or not the first that a reader comes upon. V has the file's steps 0 to 4, and
+# W behind it 5 to 7.
+refused(4, "later-step", "V then W: two of W's steps, numbers 6 and 7, have a field too many; step 6 of 3 nodes is 9",
+        broken(("sequential and", V, W), ("step", 7, "operand", 1), ("step", 6, "second", 1)), [4], at=9)
+refused(4, "node-before-step", "step 0 and node 2 are wrong, and so is the tree: nodes come before steps, rule 4 before rule 5",
+        broken(("sequential and", V, W), ("step", 0, "kind", 9), ("node", 2, "right", 1), ("node", 0, "left", 0)), [4], at=2)
+refused(5, "named-twice", "node 2 has the bad child 1, but 1 is lower, and is a child twice",
+        as_bytes([bare("parallel and", 1, 2), bare("trivial"), bare("parallel or", 1, 3), bare("trivial")], []), at=1)
+refused(5, "twice-by-one", "node 2 has node 3 on both sides: no bad child, but 3 is a child twice",
+        as_bytes([bare("parallel and", 1, 2), bare("trivial"), bare("parallel or", 3, 3), bare("trivial"), bare("trivial")], []), at=3)
+refused(6, "later-leaf", "V then W: W's sup leads to step 3 of W, which has 0 to 2",
+        ("sequential and", V, W.replace("sup 0", "sup 3")), [4], at=6)
+refused(6, "sum-and-target", "the same, and W's step count is one too great: a wrong sum is at 0",
+        broken(("sequential and", V, W.replace("sup 0", "sup 3")), ("node", 2, "count", 4)), [4], at=0)
+refused(7, "by-a-later-step", "V, then a leaf whose last spend, closing, leads back to its next: the next is to blame",
+        ("sequential and", V, "set {2}, counter 1; 0 next 1/2, 1 ok 0, 2 spend 1 0/3, 3 end."), [4], at=5)
+refused(7, "leads-nowhere", "V, then a leaf with an acase that is reached closing: it may not stand there, so it leads nowhere, and the next is fine",
+        ("sequential and", V, "set {1, 2}; 0 next 1/2, 1 ok 0, 2 acase {} 0/0."), [4], at=7)
+refused(7, "two-modes-lead-on", "V, then a leaf with a spend reached idle and closing: it leads back to the next in both",
+        ("sequential and", V, "set {2}; 0 next 1/2, 1 ok 2, 2 spend 1 0/3, 3 end."), [4], at=5)
+refused(8, "later-leaf", "V, then a leaf with two acases that are settled before they are asked",
+        ("sequential and", V, "set {1, 2}; 0 next 1/5, 1 acase {1} 2/3, 2 acase {2} 4/4, 3 acase {2} 4/4, 4 ok 0, 5 end."), [4], at=7)
+refused(9, "two-pairs", "two pairs that interfere, nodes 3 and 6, under nodes that do not",
+        ("sequential and", ("sequential or", L, ("parallel and", V, W)), ("parallel or", W, V)), [4], at=3)
+refused(10, "child-too", "a spread of 271 at node 2, and so at the root too",
+        ("parallel and", TRIVIAL, ("sequential and", inserts("left", "0", 15, 1), inserts("right", "0, 1", 16, 9))), [0], at=0)
+
+
 # ---------------------------------------------------------------------------
 # The files.
 
@@ -1053,7 +1083,8 @@ All files here are made by `tests/stored.py`. To compare a guardrun with them, r
 def runs_readme():
     out = ["""# Stored runs
 
-NN-name.input is what guardrun reads, NN-name.output what it prints. Made by tests/stored.py, as the samples are.
+NN-name.input is what guardrun reads, NN-name.output what it prints. Made by tests/stored.py, as the samples are. A `refused-N` run with N from
+4 to 10 also prints the place: the node or step to blame.
 
 | Run | What it shows | Input bytes | Lines |
 |---|---|---|---|"""]

@@ -4,15 +4,18 @@
   python3 tests/texts.py make GUARDRUN       write every file; GUARDRUN, second/run, says what the check refuses
   python3 tests/texts.py check GUARDWRITE    run GUARDWRITE on every stored text, compare with what is stored
   python3 tests/texts.py back GUARDRUN GUARDTEXT
-                                             run GUARDTEXT on the policy of every sample and stored run of guardrun: the model must read
-                                             the very file from what is printed, or both refuse it by the same number
+                                             run GUARDTEXT on the policy of every sample, stored run of guardrun and stored refused file: the
+                                             model must read the very file from what is printed; of a file that GUARDRUN refuses the model
+                                             must show the same
 
-What must be printed is written by hand, or is the file that tests/stored.py lays out of the same policy. `make` also asks a
-model of the text, which shares nothing with the proved code, and stops where it says something else. `check` also demands
-that GUARDWRITE makes of each samples/NAME.text the bytes of samples/NAME.policy, and tries the texts at the longest length.
+What must be said is written by hand, or is the file that tests/stored.py lays out of the same policy. A file goes to standard output, with nothing on
+standard error; a message goes to standard error, with nothing on standard output. `make` also asks a model of the text, which shares nothing with the
+proved code, and stops where it says something else. `check` also demands that GUARDWRITE makes of each samples/NAME.text the bytes of
+samples/NAME.policy, and tries the texts at the longest length.
 """
 import pathlib
 import re
+import subprocess
 import sys
 
 import stored
@@ -61,13 +64,28 @@ def values(word, rest):
     return fields
 
 
+def message(said):
+    """A message, as (standard output, standard error)."""
+    return b"", (said + "\n").encode()
+
+
+def blamed(said, nodes, steps):
+    """The line and the words of the record that `refused N at P` is about. Of a node its line is given, of a step its line, leaf and offset."""
+    rule, place = (int(n) for n in re.fullmatch(r"refused (\d+) at (\d+)\n", said).groups())
+    if rule in (6, 7, 8) or rule == 4 and place >= len(nodes):
+        line, leaf, offset = steps[place - len(nodes) if rule == 4 else place]
+        return message(f"line {line}: {said.strip()}: step {offset} of leaf {leaf}")
+    return message(f"line {nodes[place]}: {said.strip()}: node {place}")
+
+
 def model(given, guardrun):
+    """What must be said of a text, as (standard output, standard error)."""
     if len(given) > MOST:
-        return f"line {given[:MOST].count(10) + 1}: {TOO_LONG}\n".encode()
-    nodes, steps = [], []
+        return message(f"line {given[:MOST].count(10) + 1}: {TOO_LONG}")
+    nodes, steps, node_lines, step_lines = [], [], [], []
     for number, line in enumerate(given.decode("latin-1").split("\n"), 1):
         def wrong(what):
-            return f"line {number}: {what}\n".encode()
+            return message(f"line {number}: {what}")
         line = re.sub(r"([{}])", r" \1 ", line.partition("#")[0])
         words = [w for w in re.split(r"[ \t\r]+", line) if w]
         if not words:
@@ -79,20 +97,86 @@ def model(given, guardrun):
             return wrong(USAGES[words[0]])
         if words[0] not in stored.STEP_KINDS:
             nodes.append({**stored.bare("leaf"), "kind": KINDS[words[0]], **fields})
+            node_lines.append(number)
         elif not nodes or nodes[-1]["kind"] != KINDS["leaf"]:
             return wrong(NO_LEAF)
         elif nodes[-1]["count"] == 255:
             return wrong(FULL)
         else:
+            step_lines.append((number, len(nodes) - 1, nodes[-1]["count"]))
             nodes[-1]["count"] += 1
             step = {"kind": KINDS[words[0]], "action": 0, "first": 0, "second": 0, "operand": 0, **fields}
             step["operand"] = step.pop("set", step["operand"])
             steps.append(step)
     if not 1 <= len(nodes) <= 31 or len(steps) > 512:
-        return b"refused 3\n"
+        return message("refused 3")
     file = stored.as_bytes(nodes, steps)
     said = stored.printed_by(guardrun, file)
-    return said if said.startswith(b"refused ") else file
+    return blamed(said.decode(), node_lines, step_lines) if said.startswith(b"refused ") else (file, b"")
+
+
+# ---------------------------------------------------------------------------
+# A model of what is shown of a refused file. A record has a line if the record that is read from the line is that record.
+
+FIELDS = {"node": ("kind left right count counter set", (1, 1, 1, 1, 4, 8)), "step": ("kind action first second operand", (1, 1, 1, 1, 8))}
+WORDS = {sort: {KINDS[word]: word for word in LINES if (word in stored.STEP_KINDS) == (sort == "step")} for sort in FIELDS}
+
+
+def fields_of(sort, record):
+    names, sizes = FIELDS[sort]
+    ends = [sum(sizes[:i + 1]) for i in range(len(sizes))]
+    return {name: int.from_bytes(record[end - size:end], "big") for name, size, end in zip(names.split(), sizes, ends)}
+
+
+def line_of(sort, record):
+    """The record's line, or None."""
+    said = fields_of(sort, record)
+    word = WORDS[sort].get(said["kind"])
+    if word is None:
+        return None
+    told = {**said, "set": "{ " + "".join(f"{a} " for a in range(64) if said["set" if sort == "node" else "operand"] >> a & 1) + "}"}
+    rest = " ".join(str(told[name]) for name in LINES[word][1].split())
+    read = values(word, rest)
+    count = {"count": said["count"]} if word == "leaf" else {}
+    again = {**dict.fromkeys(said, 0), "kind": said["kind"], **count, **(read or {})}
+    if sort == "step":
+        again["operand"] = again.pop("set", again["operand"])
+    return None if read is None or again != said else f"{word} {rest}".strip().replace("{ ", "{").replace(" }", "}")
+
+
+def shown_record(sort, number, record):
+    line, indent = line_of(sort, record), "  " * (sort == "step")
+    return f"{indent}# {sort} {number}: {' '.join(map(str, record))}" if line is None else f"{indent}{line}  # {sort} {number}"
+
+
+def in_words(rule, place, nodes):
+    """The record that a refusal is about. Rule 4 counts nodes before steps, 6 to 8 are about steps, the others about nodes."""
+    if rule in (5, 9, 10) or rule == 4 and place < len(nodes):
+        return f"node {place}"
+    step = offset = place - len(nodes) * (rule == 4)
+    for number, node in enumerate(nodes):
+        if offset < node[3]:
+            return f"step {offset} of leaf {number}"
+        offset -= node[3]
+    return f"step {step} of no leaf"
+
+
+def shown(file, refused):
+    """What guardtext prints of a file that is refused so."""
+    found = re.fullmatch(rb"(refused (\d+) at (\d+))\n", refused)
+    if not found:
+        return refused
+    after = 6 + 16 * file[3]
+    nodes = [file[at:at + 16] for at in range(6, after, 16)]
+    steps = [file[at:at + 12] for at in range(after, len(file), 12)]
+    lines, count = [f"# {found[1].decode()}: {in_words(int(found[2]), int(found[3]), nodes)}"], 0
+    for number, node in enumerate(nodes):
+        own = steps[count:count + node[3]]
+        count += len(own)
+        lines += [shown_record("node", number, node), *(shown_record("step", offset, step) for offset, step in enumerate(own))]
+    left = list(enumerate(steps))[count:]
+    lines += ["# steps of no leaf"] * bool(left) + [shown_record("step", number, step) for number, step in left]
+    return "".join(f"{line}\n" for line in lines).encode()
 
 
 # ---------------------------------------------------------------------------
@@ -101,24 +185,28 @@ def model(given, guardrun):
 TEXTS = []
 
 
-def text(name, shows, given, printed):
-    given = given.encode() if isinstance(given, str) else given
-    TEXTS.append((f"{len(TEXTS) + 1:02}-{name}", shows, given, printed if isinstance(printed, bytes) else (printed + "\n").encode()))
+def text(name, shows, given, said):
+    """A text, and what is said of it: (standard output, standard error)."""
+    TEXTS.append((f"{len(TEXTS) + 1:02}-{name}", shows, given.encode() if isinstance(given, str) else given, said))
+
+
+def refused(name, shows, given, said):
+    text(name, shows, given, message(said))
 
 
 def bad(name, shows, given, line, what):
-    text(name, shows, given, f"line {line}: {what}")
+    refused(name, shows, given, f"line {line}: {what}")
 
 
 def file(name, shows, given, policy):
-    text(name, shows, given, stored.file_of(policy))
+    text(name, shows, given, (stored.file_of(policy), b""))
 
 
 L_TEXT = "leaf {2} 3\n  next 1 4\n  spend 1 2 3\n  ok 0\n  halt\n  end\n"
 LEAF = "leaf {1} 0\n"
 
-text("empty", "nothing at all: no node", "", "refused 3")
-text("remarks-only", "remarks and blank lines: no node", "# a policy\n\n   # that says nothing\n\t\r\n", "refused 3")
+refused("empty", "nothing at all: no node", "", "refused 3")
+refused("remarks-only", "remarks and blank lines: no node", "# a policy\n\n   # that says nothing\n\t\r\n", "refused 3")
 file("trivial", "one word, with no newline after it", "trivial", stored.TRIVIAL)
 file("L", "01's L", L_TEXT, stored.L)
 file("tabs-and-returns", "tabs, carriage returns, remarks after records, blank lines",
@@ -173,57 +261,117 @@ LARGEST = stored.joined(["sequential and", "parallel and", "sequential or", "par
 file("31-nodes", "as many nodes as there may be", stored.as_source(DEEP), DEEP)
 file("512-steps", "as many steps as there may be", stored.as_source(STEPS), STEPS)
 file("largest", "both: the longest file", stored.as_source(LARGEST), LARGEST)
-text("32-nodes", "one node more than there may be", "trivial\n" * 32, "refused 3")
-text("33-nodes", "one more than the buffer has room for", "trivial\n" * 33, "refused 3")
-text("513-steps", "one step more than there may be", (LEAF + "end\n" * 255) * 2 + LEAF + "end\n" * 3, "refused 3")
-text("514-steps", "one more than the buffer has room for", (LEAF + "end\n" * 255) * 2 + LEAF + "end\n" * 4, "refused 3")
-text("65-steps", "a step more than the check lets a leaf have", LEAF + "end\n" * 65, "refused 4")
-text("refused-4", "an insert of action 64", f"{LEAF}next 1 2\nok 0\nins 64 3\nend\n", "refused 4")
-text("refused-5", "a child that is none", "and 1 2\ntrivial\n", "refused 5")
-text("refused-6", "a target outside the leaf", f"{LEAF}next 1 9\nok 0\n", "refused 6")
-text("refused-7", "a step that is never reached", f"{LEAF}next 1 2\nok 0\nend\nend\n", "refused 7")
-text("refused-8", "a branch that no action takes", f"{LEAF}next 1 4\nacase {{1}} 2 3\nok 0\nhalt\nend\n", "refused 8")
-text("refused-9", "V and W side by side", stored.as_source(("parallel and", stored.V, stored.W)), "refused 9")
+refused("32-nodes", "one node more than there may be", "trivial\n" * 32, "refused 3")
+refused("33-nodes", "one more than the buffer has room for", "trivial\n" * 33, "refused 3")
+refused("513-steps", "one step more than there may be", (LEAF + "end\n" * 255) * 2 + LEAF + "end\n" * 3, "refused 3")
+refused("514-steps", "one more than the buffer has room for", (LEAF + "end\n" * 255) * 2 + LEAF + "end\n" * 4, "refused 3")
+refused("65-steps", "a step more than the check lets a leaf have", LEAF + "end\n" * 65, "line 1: refused 4 at 0: node 0")
+refused("refused-4", "an insert of action 64", f"{LEAF}next 1 2\nok 0\nins 64 3\nend\n", "line 4: refused 4 at 3: step 2 of leaf 0")
+refused("refused-5", "a child that is none", "and 1 2\ntrivial\n", "line 1: refused 5 at 0: node 0")
+refused("refused-6", "a target outside the leaf", f"{LEAF}next 1 9\nok 0\n", "line 2: refused 6 at 0: step 0 of leaf 0")
+refused("refused-7", "a step that is never reached", f"{LEAF}next 1 2\nok 0\nend\nend\n", "line 5: refused 7 at 3: step 3 of leaf 0")
+refused("refused-8", "a branch that no action takes", f"{LEAF}next 1 4\nacase {{1}} 2 3\nok 0\nhalt\nend\n", "line 3: refused 8 at 1: step 1 of leaf 0")
+refused("refused-9", "V and W side by side", stored.as_source(("parallel and", stored.V, stored.W)), "line 1: refused 9 at 0: node 0")
+
+# a good leaf before the bad record, and lines that are none
+TWO = f"# two leaves\r\n\r\nand 1 2\n{LEAF}next 1 2\n  # on\nok 0\nend\nleaf {{2}} 0\n"
+SIX = LEAF + "".join(f"ins 9 {k}\n" for k in range(1, 7)) + "end\n"
+refused("later-node-4", "a leaf with an empty set", "\n# none\nand 1 2\ntrivial\n\nleaf {} 0\nend\n", "line 6: refused 4 at 2: node 2")
+refused("later-step-4", "an insert of action 64: a step counts after the nodes", f"{TWO}next 1 2\nok 0\nins 64 3\nend",
+        "line 12: refused 4 at 8: step 2 of leaf 2")
+refused("later-node-5", "a child of two", "# or\n\nor 1 1\n\ntrivial", "line 5: refused 5 at 1: node 1")
+refused("later-step-6", "a target outside the second leaf", f"{TWO}next 1 5\nend\n", "line 10: refused 6 at 3: step 0 of leaf 2")
+refused("later-step-7", "an ok on closing", f"{TWO}next 1 2\nok 0\n\nok 0\n", "line 13: refused 7 at 5: step 2 of leaf 2")
+refused("later-step-8", "an acase that leaves nothing to its no", f"{TWO}next 1 4\nacase {{2}} 2 3\nok 0\nsup 0\nend\n",
+        "line 11: refused 8 at 4: step 1 of leaf 2")
+refused("later-node-9", "two sides that interfere, beneath the root", "# W, W\n\nseq-and 1 2\ntrivial\nand 3 4\n" + "leaf {3} 0\nnext 1 2\nsup 0\nend\n" * 2,
+        "line 5: refused 9 at 2: node 2")
+refused("refused-10", "a spread of 342, which is the root's", f"# inserts\n\nseq-and 1 2\n{SIX}seq-and 3 4\n{SIX}{SIX}", "line 3: refused 10 at 0: node 0")
+
+# Refused files, and what guardtext shows of them.
+SHOWN = []
+
+
+def refused_file(name, shows, file, printed):
+    SHOWN.append((f"shown-{name}", shows, file, printed.encode()))
+
+
+refused_file("4-node-and-step", "a node of no kind that counts a step, and a step with an action though it is an ok",
+             stored.broken(("parallel and", stored.W, stored.W), ("node", 0, "kind", 9), ("node", 0, "count", 1), ("node", 2, "count", 2),
+                           ("step", 4, "kind", 2), ("step", 4, "action", 7)),
+             "# refused 4 at 0: node 0\n# node 0: 9 1 2 1 0 0 0 0 0 0 0 0 0 0 0 0\n  next 1 2  # step 0\n"
+             "leaf {3} 0  # node 1\n  sup 0  # step 0\n  end  # step 1\n  next 1 2  # step 2\n"
+             "leaf {3} 0  # node 2\n  # step 0: 2 7 0 0 0 0 0 0 0 0 0 0\n  end  # step 1\n")
+refused_file("6-steps-left", "a leaf that counts two steps too few", stored.broken(stored.L, ("node", 0, "count", 3)),
+             "# refused 6 at 0: step 0 of leaf 0\nleaf {2} 3  # node 0\n  next 1 4  # step 0\n  spend 1 2 3  # step 1\n  ok 0  # step 2\n"
+             "# steps of no leaf\n  halt  # step 3\n  end  # step 4\n")
+refused_file("6-steps-lacking", "a leaf that counts a step too many", stored.broken(stored.W, ("node", 0, "count", 4)),
+             "# refused 6 at 0: step 0 of leaf 0\nleaf {3} 0  # node 0\n  next 1 2  # step 0\n  sup 0  # step 1\n  end  # step 2\n")
+refused_file("7-in-the-second-leaf", "a step that is reached in two modes, of the second leaf",
+             stored.broken(("sequential or", stored.W, stored.V), ("step", 5, "first", 4)),
+             "# refused 7 at 7: step 4 of leaf 2\nseq-or 1 2  # node 0\nleaf {3} 0  # node 1\n  next 1 2  # step 0\n  sup 0  # step 1\n  end  # step 2\n"
+             "leaf {4} 0  # node 2\n  next 1 3  # step 0\n  sup 2  # step 1\n  ins 3 4  # step 2\n  ins 3 4  # step 3\n  end  # step 4\n")
+refused_file("2-version", "a version that is none: its records are not read", stored.broken(stored.L, version=2), "refused 2\n")
 
 # built, not stored: the longest text, one byte more, and where the line of that byte begins
 LONGEST = [
-    ("longest", b"#" * (MOST - 8) + b"\ntrivial", stored.file_of(stored.TRIVIAL)),
-    ("one-byte-more", b"trivial\n" + b"#" * (MOST - 7), f"line 2: {TOO_LONG}\n".encode()),
-    ("ends-a-line", b"\n" * (MOST + 1), f"line {MOST + 1}: {TOO_LONG}\n".encode()),
-    ("begins-a-line", b"#" * (MOST - 1) + b"\n\n", f"line 2: {TOO_LONG}\n".encode()),
+    ("longest", b"#" * (MOST - 8) + b"\ntrivial", (stored.file_of(stored.TRIVIAL), b"")),
+    ("one-byte-more", b"trivial\n" + b"#" * (MOST - 7), message(f"line 2: {TOO_LONG}")),
+    ("ends-a-line", b"\n" * (MOST + 1), message(f"line {MOST + 1}: {TOO_LONG}")),
+    ("begins-a-line", b"#" * (MOST - 1) + b"\n\n", message(f"line 2: {TOO_LONG}")),
 ]
 
 
 def readme():
     out = ["""# Stored texts
 
-NN-name.text is what guardwrite reads, NN-name.output what it prints. Made by tests/texts.py; run `python3 tests/texts.py check
-PROGRAM` to compare a guardwrite with them, and with the samples.
+NN-name.text is what guardwrite reads. NN-name.output is what it writes to standard output, and then it writes nothing to standard error; or
+NN-name.error is what it writes to standard error, and then it writes nothing to standard output. shown-name.policy is a refused file, and
+shown-name.shown what guardtext prints of it. Made by tests/texts.py; run `python3 tests/texts.py check PROGRAM` to compare a guardwrite with
+them, and with the samples.
 
-| Text | What it shows | Bytes | Prints |
+| Text | What it shows | Bytes | Says |
 |---|---|---|---|"""]
-    for name, shows, given, printed in TEXTS:
-        said = f"`{printed.decode().strip()}`" if re.match(rb"(line|refused) ", printed) else f"a file of {len(printed)} bytes"
-        out.append(f"| {name} | {shows} | {len(given)} | {said} |")
+    for name, shows, given, (output, error) in TEXTS:
+        out.append(f"| {name} | {shows} | {len(given)} | {f'a file of {len(output)} bytes' if output else f'`{error.decode().strip()}`'} |")
+    out.append("\n| File | What it shows | Bytes | Shown in the first line |\n|---|---|---|---|")
+    out += [f"| {name} | {shows} | {len(file)} | `{printed.decode().splitlines()[0]}` |" for name, shows, file, printed in SHOWN]
     return ("\n".join(out) + "\n").encode()
 
 
 def described():
     files = {"README.md": readme()}
-    for name, _, given, printed in TEXTS:
-        files[f"{name}.text"], files[f"{name}.output"] = given, printed
+    for name, _, given, (output, error) in TEXTS:
+        files[f"{name}.text"] = given
+        files.update({f"{name}.output": output} if output else {f"{name}.error": error})
+    for name, _, given, printed in SHOWN:
+        files[f"{name}.policy"], files[f"{name}.shown"] = given, printed
     return files
 
 
 def make(guardrun):
-    for name, given, printed in [(n, g, p) for n, _, g, p in TEXTS] + LONGEST:
-        if model(given, guardrun) != printed:
-            sys.exit(f"{name}: by hand {printed[:200]!r}, the model {model(given, guardrun)[:200]!r}")
+    for name, given, said in [(n, g, s) for n, _, g, s in TEXTS] + LONGEST:
+        if model(given, guardrun) != said:
+            sys.exit(f"{name}: by hand {str(said)[:200]}, the model {str(model(given, guardrun))[:200]}")
+    for name, _, file, printed in SHOWN:
+        by_model = shown(file, stored.printed_by(guardrun, file))
+        if by_model != printed:
+            sys.exit(f"{name}: by hand\n{printed.decode()}the model\n{by_model.decode()}")
     folder = HERE / "tests/texts"
     folder.mkdir(exist_ok=True)
     for name, content in described().items():
         (folder / name).write_bytes(content)
-    print(f"{len(TEXTS)} texts written")
+    print(f"{len(TEXTS)} texts and {len(SHOWN)} refused files written")
+
+
+def said_by(guardwrite, given):
+    done = subprocess.run(guardwrite, input=given, capture_output=True, timeout=60, check=False)
+    return done.stdout, done.stderr
+
+
+def said_by(guardwrite, given):
+    done = subprocess.run(guardwrite, input=given, capture_output=True, timeout=60, check=False)
+    return done.stdout, done.stderr
 
 
 def check(guardwrite):
@@ -231,9 +379,9 @@ def check(guardwrite):
     faults = [f"tests/texts/{name}" for name, content in files.items() if (folder / name).read_bytes() != content]
     faults += [f"tests/texts/{p.name}" for p in folder.iterdir() if p.name not in files]
     samples = sorted((HERE / "samples").glob("*.text"))
-    runs = [(f"tests/texts/{name}", given, printed) for name, _, given, printed in TEXTS] + LONGEST
-    runs += [(f"samples/{p.name}", p.read_bytes(), p.with_suffix(".policy").read_bytes()) for p in samples]
-    faults += [name for name, given, printed in runs if stored.printed_by(guardwrite, given) != printed]
+    runs = [(f"tests/texts/{name}", given, said) for name, _, given, said in TEXTS] + LONGEST
+    runs += [(f"samples/{p.name}", p.read_bytes(), (p.with_suffix(".policy").read_bytes(), b"")) for p in samples]
+    faults += [name for name, given, said in runs if said_by(guardwrite, given) != said]
     for fault in faults:
         print(f"differs: {fault}")
     print(f"{len(runs)} texts, {len(faults)} differ")
@@ -241,11 +389,12 @@ def check(guardwrite):
 
 
 def files():
-    """Policy files, good and bad, by name: those of the samples and of the stored runs, and some that are none."""
+    """Policy files, good and bad, by name: those of the samples, of the stored runs and of the refused files, and some that are none."""
     found = {f"samples/{p.name}": p.read_bytes() for p in sorted((HERE / "samples").glob("*.policy"))}
     for p in sorted((HERE / "tests/runs").glob("*.input")):
         given = p.read_bytes()
         found[f"tests/runs/{p.name}"] = given[:int.from_bytes(given[:2], "big")]
+    found.update((f"tests/texts/{name}", file) for name, _, file, _ in SHOWN)
     odd = {"nothing": b"", "three bytes": bytes(3), "a byte too long": b"\x19\xf7" + bytes(6645), "7000 bytes": bytes(7000)}
     return {**found, **odd}
 
@@ -254,7 +403,7 @@ def back(guardrun, guardtext):
     faults = []
     for name, file in files().items():
         said, printed = stored.printed_by(guardrun, file), stored.printed_by(guardtext, file)
-        expected = printed == said if said.startswith(b"refused ") else model(printed, guardrun) == file
+        expected = printed == shown(file, said) if said.startswith(b"refused ") else model(printed, guardrun) == (file, b"")
         faults += [] if expected else [name]
     for fault in faults:
         print(f"differs: {fault}")

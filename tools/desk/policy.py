@@ -59,12 +59,20 @@ class Policy:
         try:
             return programs.lines_of(program, self.file + given)
         except Refused as refused:
-            raise Fault(f"{self.title} is {explained(refused)}") from refused
+            raise self.fault(refused) from refused
+
+    def fault(self, refused):
+        return Fault(f"{self.title} is {explained(refused)}")
 
     def text(self):
         """The policy's text. guardtext reads all that it is given as the file, so that a file with a byte too many or too few is refused
-        here; guardrun would take what follows the file for commands."""
+        here; guardrun would take what follows the file for commands. And it says which record is wrong."""
         return self.said_by("guardtext")
+
+    def shown(self):
+        """All that guardtext prints, also of a refused file, and the refusal, or None."""
+        said = programs.said_by("guardtext", self.file)
+        return said, programs.refusal(said)
 
     def nodes(self):
         return records.outline(self.text())
@@ -77,9 +85,13 @@ def file_of(source):
     except BadLine as bad:
         source.fault(bad.line, f"expected {bad.expected}")
     except Refused as refused:
-        raise Fault(f"{source.title} is {explained(refused)}") from refused
+        raise Fault(f"{source.title} is {explained(refused, source)}") from refused
 
 
-def explained(refused):
-    """A refusal in words."""
-    return f"refused {refused.number}: {REASONS.get(refused.number, 'see the table of refusals in README.md')}"
+def explained(refused, source=None):
+    """A refusal in words, and the record that it is about."""
+    said = f"refused {refused.number}: {REASONS.get(refused.number, 'see the table of refusals in README.md')}"
+    if refused.record is None:
+        return said
+    where = f"{source.title}, line {refused.line}: {refused.record}, `{source.line(refused.line)}`" if source and refused.line else refused.record
+    return f"{said}\n    {where}"

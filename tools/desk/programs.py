@@ -17,11 +17,11 @@ class Fault(Exception):
 
 
 class Refused(Exception):
-    """A program refused the policy: the rule's number."""
+    """A program refused the policy: the rule's number; where the program says it, the record in words; and of a text the record's line."""
 
-    def __init__(self, number):
-        super().__init__(number)
-        self.number = number
+    def __init__(self, number, record=None, line=None):
+        super().__init__(number, record, line)
+        self.number, self.record, self.line = number, record, line
 
 
 class BadLine(Exception):
@@ -50,23 +50,31 @@ def started(path):
     return [*[starter for starter in starters if starter.exists()][:1], path]
 
 
-def said_by(name, given):
-    """What the program prints, as bytes."""
+def streams_of(name, given):
+    """What the program writes to standard output and to standard error, as bytes: it always has something to say."""
     path = found(name)
     if path is None:
         looked = " or ".join(str(folder) for folder in folders())
         raise Fault(f"the program {name} is not in {looked}. `make programs` builds it; FRETMERE_PROGRAMS names another folder", 2)
     done = subprocess.run(started(path), input=given, capture_output=True, check=False)
-    if not done.stdout or done.returncode != 0:
-        why = (done.stdout or done.stderr).decode(errors="replace").strip()
-        raise Fault(f"{name} does not run here (exit status {done.returncode}): {why}", 2)
-    return done.stdout
+    said = done.stdout or done.stderr
+    if not said or done.returncode != 0:
+        raise Fault(f"{name} does not run here (exit status {done.returncode}): {said.decode(errors='replace').strip()}", 2)
+    return done.stdout, done.stderr
+
+
+def said_by(name, given):
+    """What the program writes to standard output, as bytes."""
+    said, instead = streams_of(name, given)
+    if not said:
+        raise Fault(f"{name} does not run here: {instead.decode(errors='replace').strip()}", 2)
+    return said
 
 
 def refusal(said):
-    """The refusal that a program's first line says, `refused N`, or None."""
-    found_line = re.match(rb"refused (\d+)\r?(?:\n|$)", said)
-    return Refused(int(found_line[1])) if found_line else None
+    """The refusal that a program's first line says, or None: `refused N` or `refused N at P`; and as guardtext has it, `# refused N at P: RECORD`."""
+    told = re.match(rb"(?:# )?refused (\d+)(?: at \d+(?:: ([^\r\n]+))?)?\r?(?:\n|$)", said)
+    return Refused(int(told[1]), told[2] and told[2].decode()) if told else None
 
 
 def lines_of(name, given):
@@ -79,15 +87,15 @@ def lines_of(name, given):
 
 
 def file_of(text):
-    """The policy file that guardwrite makes of a text. The first two bytes of a file are its length, at most 6,646, which no `line ..`
-    and no `refused ..` can be: so that a message is never taken for a file."""
-    said = said_by("guardwrite", text)
-    if len(said) <= MOST and int.from_bytes(said[:2], "big") == len(said):
-        return said
-    refused = refusal(said)
-    if refused:
-        raise refused
-    bad = re.match(rb"line (\d+): (.*)", said)
-    if not bad:
-        raise Fault(f"guardwrite said neither a file nor what is wrong: {said[:80]!r}", 2)
+    """The policy file that guardwrite makes of a text, which it writes to standard output. What is wrong it writes to standard error: of a text that is
+    refused with a record `line L: refused N at P: node 3`, else `refused N`; of a line that it cannot read `line L: ` and what was expected."""
+    file, message = streams_of("guardwrite", text)
+    if len(file) <= MOST and int.from_bytes(file[:2], "big") == len(file) > 0:
+        return file
+    refused = re.fullmatch(rb"(?:line (\d+): )?refused (\d+)(?: at \d+: (.*))?\n", message)
+    if refused and not file:
+        raise Refused(int(refused[2]), refused[3] and refused[3].decode(), refused[1] and int(refused[1]))
+    bad = re.fullmatch(rb"line (\d+): (.*)\n", message)
+    if not bad or file:
+        raise Fault(f"guardwrite said neither a file nor what is wrong: {(file or message)[:80]!r}", 2)
     raise BadLine(int(bad[1]), bad[2].decode())

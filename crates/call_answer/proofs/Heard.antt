@@ -10,6 +10,9 @@ use Rattle.spec_turns.specs.Entries.{Reply, answers, refuses, entry}
 use Rattle.laws_turns.proofs.Answered.{answered, room-kept}
 use Rattle.laws_turns.proofs.Bounds.{answered-emits}
 use Rattle.laws_turns.proofs.Cells.{status-back}
+use Rattle.faults.specs.declared.Fault.{Fault}
+use Rattle.faults.specs.Meaning.{faultOf, faultValue}
+use Rattle.faults.proofs.Once.{same-meaning}
 use Rattle.call_answer.specs.Replies.{spoken, Gave}
 use Rattle.call_answer.specs.declared.Answer.{Answer}
 use Rattle.call_answer.specs.declared.Answer.the-variants.{Answered, Refused}
@@ -22,10 +25,10 @@ heard (answers m s) n k e =
     ap₂ answers a (sym (status-back s) ∙ ap statusOf b)
 heard (refuses m) n k e = let z : _≡_ {A = ℕ} 0 1 = cc in absurd (omega arith)
 
-pub heard-refusal : (q : Reply) (n : ℕ) → Refused n ≡ spoken q → q ≡ refuses n
+pub heard-refusal : (q : Reply) (f : Fault) → Refused f ≡ spoken q → q ≡ refuses (faultOf f)
 unfolding spoken
-heard-refusal (answers m s) n e = let z : _≡_ {A = ℕ} 0 1 = cc in absurd (omega arith)
-heard-refusal (refuses m) n e = let a : m ≡ n = cc in ap refuses a
+heard-refusal (answers m s) f e = let z : _≡_ {A = ℕ} 0 1 = cc in absurd (omega arith)
+heard-refusal (refuses m) f e = let a : faultValue m ≡ f = cc in ap refuses (sym (same-meaning m) ∙ ap faultOf a)
 
 module _ (policy : Bytes) where
   -- what one request's call gave is what the same request's gave

@@ -14,6 +14,7 @@ ghost use Rattle.spec_turns.specs.Saved.{stateSize};
 ghost use Rattle.turn_paths.specs.Memory.{held};
 ghost use Rattle.turn_memory.specs.Words.{wordCount, memoryOf};
 ghost use Rattle.call_answer.specs.Ends.{verdicts, Added, Ended};
+use faults::Fault;
 use turn_memory::WORDS;
 use turn_memory::status_at;
 use turn_rest::tidy::tidy;
@@ -29,10 +30,10 @@ pub enum Call {
     Close,
 }
 
-// The number of events and the root's status, or a refusal number.
+// The number of events and the root's status, or a refusal.
 pub enum Answer {
     Answered(usize, u8),
-    Refused(u8),
+    Refused(Fault),
 }
 
 // "The verdict's event stands between the phases; a halt before the verdict has none."

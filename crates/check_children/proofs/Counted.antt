@@ -17,6 +17,7 @@ use Rattle.spec_policy.specs.Records.{Node, nodeCount, nodeAt, nodePlace, nodes
 use Rattle.spec_policy.specs.Tree.{NodeKind, aLeaf, aTrivial, anUnsatisfiable, aPair, noNode, nodeKind}
 use Rattle.spec_policy.proofs.ListLaws.{listed-rest, listed-over, every-rest, everyAt-rest, everyAt-over, one-most}
 use Rattle.spec_check.specs.Children.{later, children, oneParent, broken5}
+use Rattle.spec_check.proofs.Kept.{broken5-is}
 use Rattle.spec_check.proofs.Numbers.{kids, kids-cons, kids-pair}
 use Rattle.file_records.specs.Kinds.{wayOf, joinOf, kindOf}
 use Rattle.file_records.specs.declared.Way.{Way}
@@ -173,11 +174,10 @@ module _ {file : Bytes} {n m : ℕ} (frame : Framed file n m) where
   later-same = ap₂ (λ (k : ℕ) (l : List Node). everyAt (later k) 0 l) (sym (frame .nodes)) are-nodes
 
   pub broken-child : everyAt (later n) 0 here ≡ false → broken5 file ≡ true
-  unfolding broken5
-  broken-child t = ap (λ (b : Bool). not b || not (everyAt (λ i x. oneParent (nodes file) i) 0 (nodes file))) (later-same ∙ t)
+  broken-child t = broken5-is file ∙ ap (λ (b : Bool). not b || not (everyAt (λ i x. oneParent (nodes file) i) 0 (nodes file))) (later-same ∙ t)
 
   pub broken-count : everyAt (later n) 0 here ≡ true → (count : List ℕ) → ((k : ℕ) → getD count k 0 ≡ occurs k (children here)) → broken5 file ≡ not (once count 1 n)
-  unfolding broken5
   broken-count t count h =
-      ap (λ (b : Bool). not b || not (everyAt (λ i x. oneParent (nodes file) i) 0 (nodes file))) (later-same ∙ t)
+      broken5-is file
+      ∙ ap (λ (b : Bool). not b || not (everyAt (λ i x. oneParent (nodes file) i) 0 (nodes file))) (later-same ∙ t)
       ∙ ap not (ap (λ (l : List Node). everyAt (λ i x. oneParent l i) 0 l) are-nodes ∙ by-counts here count h (λ i. nodeAt file (nodePlace i)) n (frame .some-node))

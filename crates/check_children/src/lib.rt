@@ -1,13 +1,16 @@
-// Rule 5, the tree rule: one pass that tests each child's number and counts it, then one over the counts.
+// Rule 5, the tree rule: one pass that tests each child's number and counts it, then one over the counts; and which node breaks it.
 ghost use mathlib.Core.Path.{_≡_};
 ghost use mathlib.Core.List.{[], _∷_};
 ghost use Prim.Native.Nat.{ℕ, _+_, _-_, _*_, _≤_, _<_};
 ghost use lib.Dec.{T, eqb};
 ghost use lib.ListN.{length, getD};
-ghost use Rattle.spec_policy.specs.Lists.{listed, every, everyAt, occurs};
-ghost use Rattle.spec_policy.specs.Records.{nodeSize, mostNodes, nodeAt, nodePlace};
-ghost use Rattle.spec_check.specs.Children.{later, children, broken5};
+ghost use Rattle.spec_policy.specs.Lists.{one, listed, every, everyAt, occurs};
+ghost use Rattle.spec_policy.specs.Records.{nodeSize, mostNodes, nodeAt, nodePlace, nodes};
+ghost use Rattle.spec_check.specs.Children.{later, children, wrong5, broken5};
+ghost use Rattle.faults.specs.Meaning.{spotOf};
 ghost use Rattle.check_layout.specs.Frame.{Framed};
+use faults::Spot;
+use faults::on_record;
 use file_records::Kind;
 use file_records::MOST_NODES;
 use file_records::node_kind;
@@ -85,4 +88,76 @@ pub fn broken5(policy: &[u8], n: usize, m: usize) -> bool
         return true;
     }
     !each_once(&count, n)
+}
+
+// ---- which node breaks the rule, asked only once it is known to be broken
+
+// Whether the children of node i, whose record is at `at`, have numbers greater than i and less than n.
+fn children_later(policy: &[u8], at: usize, i: usize, n: usize) -> bool
+    requires { ⌜ at + nodeSize ≤ length (now policy) ⌝ }
+    ensures { λ r. ⌜ r ≡ later n i (nodeAt (now (policy .entry)) at) ⌝ }
+{
+    let kind = node_kind(policy, at);
+    match kind {
+        Kind::Pair(_, _) => {
+            let left = node_left(policy, at) as usize;
+            let right = node_right(policy, at) as usize;
+            (i < left) & (left < n) & (i < right) & (right < n)
+        }
+        _ => true,
+    }
+}
+
+fn one(b: bool) -> usize
+    ensures { λ r. ⌜ r ≡ one b ⌝ }
+{
+    if b { 1 } else { 0 }
+}
+
+// How often the node whose record is at `at` names k as its child.
+fn names(policy: &[u8], at: usize, k: usize) -> usize
+    requires { ⌜ at + nodeSize ≤ length (now policy) ⌝ }
+    ensures { λ r. ⌜ (r ≡ occurs k (children (nodeAt (now (policy .entry)) at ∷ []))) × (r ≤ 2) ⌝ }
+{
+    let kind = node_kind(policy, at);
+    match kind {
+        Kind::Pair(_, _) => {
+            let left = node_left(policy, at) as usize;
+            let right = node_right(policy, at) as usize;
+            one(left == k) + one(right == k)
+        }
+        _ => 0,
+    }
+}
+
+// How often k is named as a child: every naming counts, a bad one too.
+fn named(policy: &[u8], n: usize, m: usize, k: usize) -> usize
+    requires { ⌜ Framed (now policy) n m ⌝ }
+    ensures { λ r. ⌜ r ≡ occurs k (children (nodes (now (policy .entry)))) ⌝ }
+{
+    let mut sum: usize = 0;
+    let mut i: usize = 0;
+    while i < n {
+        sum += names(policy, node_place(i), k);
+        i += 1;
+    }
+    sum
+}
+
+// The walk's own test counts each child as it is named and ends at a bad one, so that it knows no count then: here the namings of each node are
+// counted anew.
+pub fn wrong5(policy: &[u8], n: usize, m: usize) -> Spot
+    requires { ⌜ Framed (now policy) n m ⌝ }
+    ensures { λ r. ⌜ spotOf r ≡ wrong5 (now (policy .entry)) ⌝ }
+{
+    let mut i: usize = 0;
+    while i < n {
+        let later = children_later(policy, node_place(i), i, n);
+        let once = (i == 0) | (named(policy, n, m, i) == 1);
+        if !(later & once) {
+            return on_record(i);
+        }
+        i += 1;
+    }
+    Spot::Nowhere
 }

@@ -1,4 +1,4 @@
--- The two sets of a node, and its flag for rule 9, by its kind and from what its children have.
+-- The two sets of a node, and rule 9 of it, by its kind and from what its children have.
 use Prim.Native.Nat.{ℕ, _+_, _≤_, _<_}
 use native.Mathlib.Omega.{arith}
 use mathlib.Core.Path.{_≡_, refl, sym, ap, ap₂, _∙_, subst}
@@ -15,7 +15,9 @@ use Rattle.spec_policy.specs.Bytes.{Bytes}
 use Rattle.spec_policy.specs.Steps.{Step}
 use Rattle.spec_policy.specs.Records.{mostNodes, Node, nodeAt, nodePlace, nodeCount}
 use Rattle.spec_policy.specs.Tree.{Way, parallel, sequential, nodeKind, NodeSteps, nodesWithSteps, Tree, leaf, node, tree, regulated}
-use Rattle.spec_check.specs.Interference.{leafEffects, effects, interfere, apart, broken9}
+use Rattle.spec_policy.specs.Spots.{Spot, nowhere, onRecord, firstOff}
+use Rattle.spec_policy.proofs.FirstLoop.{firstFrom, none-from, found-from, kept-from, all-from}
+use Rattle.spec_check.specs.Interference.{leafEffects, effects, interfere, crossed, wrong9}
 use Rattle.spec_check.specs.Numbers.{nodeStepsIn, shaped}
 use Rattle.spec_check.proofs.Numbers.{ChildrenLater, node-read, kind-read, tree-read, children-read, tree-top}
 use Rattle.spec_policy.specs.Tree.{treeAt}
@@ -26,8 +28,9 @@ use Rattle.file_records.specs.declared.Kind.{Kind}
 use Rattle.file_records.specs.declared.Kind.the-variants.{Leaf, Trivial, Unsatisfiable, Pair, Unknown}
 use Rattle.file_records.proofs.Kind.{the-type}
 use Rattle.check_layout.specs.Frame.{Framed}
+use Rattle.check_layout.proofs.Frame.{node-list}
 use Rattle.check_leaves.specs.Leaves.{LeafValues}
-use Rattle.check_interference.specs.Sets.{Treed, Filled, RegulatedFrom, EffectsFrom, ApartFrom, isParallel, clash}
+use Rattle.check_interference.specs.Sets.{Treed, Filled, RegulatedFrom, EffectsFrom, isParallel, clash}
 
 -- ---- tests, one after the other
 
@@ -36,20 +39,6 @@ or-stop p q a e t = t ∙ ap (λ (x : Bool). x || q) (sym t ∙ e)
 
 pub or-go : (p q a b : Bool) → a ≡ p → a ≡ false → b ≡ q → b ≡ (p || q)
 or-go p q a b e f h = h ∙ ap (λ (x : Bool). x || q) (sym f ∙ e)
-
-module _ (c a b w : Bool) (e : (not c && a && b) ≡ w) where
-  pub first-yes : c ≡ true → false ≡ w
-  first-yes t = ap (λ (x : Bool). not x && a && b) (sym t) ∙ e
-
-  module _ (f : c ≡ false) where
-    then : (y : Bool) → a ≡ y → (y && b) ≡ w
-    then y g = ap₂ (λ (x z : Bool). not x && z && b) (sym f) (sym g) ∙ e
-
-    pub second-no : a ≡ false → a ≡ w
-    second-no g = g ∙ then false g
-
-    pub third-is : a ≡ true → b ≡ w
-    third-is g = then true g
 
 -- ---- one node more
 
@@ -151,22 +140,19 @@ module _ {file : Bytes} {n m i place : ℕ} {q : Kind} (d : Read file n m i plac
     unfolding effects
     pair-affects s = (let p = of-sides (omega arith) s in ap₂ union (p .0) (p .1)) ∙ ap effects pair-tree
 
-    apart-node : (v : Way) (a b : Tree) → (not (isParallel v && interfere a b) && apart a && apart b) ≡ apart (node v (joinOf j) i a b)
-    unfolding apart isParallel
-    apart-node parallel a b = refl
-    apart-node sequential a b = refl
+    crossed-node : (v : Way) (a b : Tree) → (isParallel v && interfere a b) ≡ crossed (node v (joinOf j) i a b)
+    unfolding crossed isParallel
+    crossed-node parallel a b = refl
+    crossed-node sequential a b = refl
 
     -- c is whether the sides interfere
-    pub pair-apart : {regs effs : List ActionSet} {flags : List Bool} → RegulatedFrom file (i + 1) n regs → EffectsFrom file (i + 1) n effs → ApartFrom file (i + 1) n flags
-        → (c : Bool) → c ≡ (isParallel (wayOf w) && clash regs effs l r) → (not c && getD flags l false && getD flags r false) ≡ apart (treeAt file i)
+    pub pair-crossed : {regs effs : List ActionSet} → RegulatedFrom file (i + 1) n regs → EffectsFrom file (i + 1) n effs
+        → (c : Bool) → c ≡ (isParallel (wayOf w) && clash regs effs l r) → c ≡ crossed (treeAt file i)
     unfolding interfere clash
-    pair-apart {flags = flags} a b held c ec =
+    pair-crossed a b c ec =
         let p = of-sides (omega arith) a in
         let q = of-sides (omega arith) b in
-        let z = of-sides (omega arith) held in
-        ap (λ (y : Bool). not y && getD flags l false && getD flags r false) ec
-        ∙ (λ u. not (isParallel (wayOf w) && (meets (q .0 u) (p .1 u) || meets (q .1 u) (p .0 u))) && z .0 u && z .1 u)
-        ∙ apart-node (wayOf w) (treeAt file l) (treeAt file r) ∙ ap apart pair-tree
+        ec ∙ (λ u. isParallel (wayOf w) && (meets (q .0 u) (p .1 u) || meets (q .1 u) (p .0 u))) ∙ crossed-node (wayOf w) (treeAt file l) (treeAt file r) ∙ ap crossed pair-tree
 
   -- neither a leaf nor a pair
   pub no-sets : OneOf (1 ∷ 2 ∷ 4 ∷ []) (tagOf the-type q) → (EMPTY ≡ regulated (treeAt file i)) × (EMPTY ≡ effects (treeAt file i))
@@ -182,17 +168,41 @@ module _ {file : Bytes} {n m i place : ℕ} {q : Kind} (d : Read file n m i plac
       go (Pair w j) o u = absurd (miss (1 ∷ 2 ∷ 4 ∷ []) 3 tt o)
 
   -- no pair
-  pub alone-apart : OneOf (0 ∷ 1 ∷ 2 ∷ 4 ∷ []) (tagOf the-type q) → true ≡ apart (treeAt file i)
-  unfolding kindOf shaped apart
-  alone-apart o = go q o (tree-here refl)
+  pub alone : OneOf (0 ∷ 1 ∷ 2 ∷ 4 ∷ []) (tagOf the-type q) → false ≡ crossed (treeAt file i)
+  unfolding kindOf shaped crossed
+  alone o = go q o (tree-here refl)
     where
       go : (y : Kind) → OneOf (0 ∷ 1 ∷ 2 ∷ 4 ∷ []) (tagOf the-type y) → treeAt file i ≡ shaped (kindOf y) i here (treeAt file (x .left)) (treeAt file (x .right))
-          → true ≡ apart (treeAt file i)
-      go Leaf o u = sym (ap apart u)
-      go Trivial o u = sym (ap apart u)
-      go Unsatisfiable o u = sym (ap apart u)
-      go Unknown o u = sym (ap apart u)
+          → false ≡ crossed (treeAt file i)
+      go Leaf o u = sym (ap crossed u)
+      go Trivial o u = sym (ap crossed u)
+      go Unsatisfiable o u = sym (ap crossed u)
+      go Unknown o u = sym (ap crossed u)
       go (Pair w j) o u = absurd (miss (0 ∷ 1 ∷ 2 ∷ 4 ∷ []) 3 tt o)
+
+-- ---- rule 9
+
+abbrev pub sparedAt : Bytes → ℕ → Node → Bool
+sparedAt file i x = not (crossed (treeAt file i))
+
+-- the first node from i on whose sides interfere
+abbrev pub crossedFrom : Bytes → ℕ → ℕ → Spot
+crossedFrom file n i = firstFrom (sparedAt file) (λ i. nodeAt file (nodePlace i)) n i
+
+module _ (file : Bytes) (n : ℕ) where
+  module _ {i : ℕ} {c : Bool} (h : i < n) (e : c ≡ crossed (treeAt file i)) where
+    pub crossed-found : c ≡ true → onRecord i ≡ crossedFrom file n i
+    crossed-found t = found-from (sparedAt file) (λ i. nodeAt file (nodePlace i)) n i h (ap not (sym e ∙ t))
+
+    pub crossed-kept : c ≡ false → crossedFrom file n (i + 1) ≡ crossedFrom file n i
+    crossed-kept t = kept-from (sparedAt file) (λ i. nodeAt file (nodePlace i)) n i h (ap not (sym e ∙ t))
+
+  pub crossed-none : nowhere ≡ crossedFrom file n n
+  crossed-none = none-from (sparedAt file) (λ i. nodeAt file (nodePlace i)) n n (omega arith)
+
+pub crossed-all : {file : Bytes} {n m : ℕ} → Framed file n m → crossedFrom file n 0 ≡ wrong9 file
+unfolding wrong9 nodePlace
+crossed-all {file} {n} f = all-from (sparedAt file) (λ i. nodeAt file (nodePlace i)) n ∙ ap (λ (l : List Node). firstOff (sparedAt file) 0 l) (sym (node-list f))
 
 -- ---- the root
 
@@ -200,7 +210,3 @@ module _ {file : Bytes} {n m i place : ℕ} {q : Kind} (d : Read file n m i plac
 pub top-is : {A : Type 0} {file : Bytes} {n m : ℕ} (g : Tree → A) {none : A} {xs : List A} → Framed file n m → Filled (λ k. g (treeAt file k)) none 0 n xs
     → getD xs 0 none ≡ g (tree file)
 top-is {file = file} g f s = s .at 0 (omega arith) (omega (arith, f .some-node)) ∙ sym (ap g (tree-top file))
-
-pub nine-is : {file : Bytes} {n m : ℕ} {flags : List Bool} → Framed file n m → ApartFrom file 0 n flags → not (getD flags 0 false) ≡ broken9 file
-unfolding broken9
-nine-is f a = ap not (top-is apart f a)

@@ -11,7 +11,7 @@ use Rattle.spec_policy.specs.Tree.{Way, parallel, sequential, regulated}
 use Rattle.spec_check.specs.Layout.{broken4}
 use Rattle.spec_check.specs.Children.{broken5}
 use Rattle.spec_check.specs.Targets.{broken6}
-use Rattle.spec_check.specs.Interference.{effects, apart}
+use Rattle.spec_check.specs.Interference.{effects}
 use Rattle.spec_policy.specs.Tree.{treeAt}
 use Rattle.check_layout.specs.Frame.{Framed}
 
@@ -33,10 +33,6 @@ RegulatedFrom file i n regs = Filled (λ k. regulated (treeAt file k)) 0 i n reg
 
 abbrev pub EffectsFrom : Bytes → ℕ → ℕ → List ActionSet → Type 0
 EffectsFrom file i n effs = Filled (λ k. effects (treeAt file k)) 0 i n effs
-
--- whether the parallel sides in it are apart
-abbrev pub ApartFrom : Bytes → ℕ → ℕ → List Bool → Type 0
-ApartFrom file i n flags = Filled (λ k. apart (treeAt file k)) false i n flags
 
 -- "for kinds 4 and 6": a sequential pair's sides may meet
 unfoldable pub isParallel : Way → Bool

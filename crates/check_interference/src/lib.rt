@@ -6,14 +6,16 @@ ghost use lib.ListN.{length, getD};
 ghost use Rattle.actions.specs.Sets.{union, meets};
 ghost use Rattle.spec_policy.specs.Records.{mostNodes};
 ghost use Rattle.spec_policy.specs.Tree.{regulated};
-ghost use Rattle.spec_check.specs.Interference.{leafEffects, effects, apart, broken9};
+ghost use Rattle.spec_check.specs.Interference.{leafEffects, effects, crossed, wrong9};
+ghost use Rattle.faults.specs.Meaning.{spotOf};
 ghost use Rattle.spec_policy.specs.Tree.{treeAt};
 ghost use Rattle.file_records.specs.Kinds.{wayOf};
 ghost use Rattle.check_leaves.specs.Leaves.{LeafValues};
-ghost use Rattle.check_interference.specs.Sets.{Treed, RegulatedFrom, EffectsFrom, ApartFrom, isParallel, clash};
+ghost use Rattle.check_interference.specs.Sets.{Treed, RegulatedFrom, EffectsFrom, isParallel, clash};
 use actions::ActionSet;
+use faults::Spot;
+use faults::on_record;
 use file_records::Kind;
-use file_records::MOST_NODES;
 use file_records::Way;
 use file_records::node_kind;
 use file_records::node_left;
@@ -94,22 +96,20 @@ fn interfere(way: Way, left: usize, right: usize, regulated: &[u64], effects: &[
     }
 }
 
-// No two parallel sides in the tree of node i interfere. Its children come after it, and have their flags.
-fn node_apart(
+// Node i is a parallel pair, and its sides interfere. They come after it, and have their sets.
+fn node_crossed(
     policy: &[u8],
     n: usize,
     m: usize,
     i: usize,
     regulated: &[u64],
     effects: &[u64],
-    flags: &[bool],
 ) -> bool
     requires { ⌜ Treed (now policy) n m ⌝ }
     requires { ⌜ i < n ⌝ }
     requires { ⌜ RegulatedFrom (now policy) (i + 1) n (now regulated) ⌝ }
     requires { ⌜ EffectsFrom (now policy) (i + 1) n (now effects) ⌝ }
-    requires { ⌜ ApartFrom (now policy) (i + 1) n (now flags) ⌝ }
-    ensures { λ r. ⌜ r ≡ apart (treeAt (now (policy .entry)) i) ⌝ }
+    ensures { λ r. ⌜ r ≡ crossed (treeAt (now (policy .entry)) i) ⌝ }
 {
     let place = node_place(i);
     let kind = node_kind(policy, place);
@@ -117,40 +117,33 @@ fn node_apart(
         Kind::Pair(way, _) => {
             let left = node_left(policy, place) as usize;
             let right = node_right(policy, place) as usize;
-            if interfere(way, left, right, regulated, effects) {
-                return false;
-            }
-            flags[left] && flags[right]
+            interfere(way, left, right, regulated, effects)
         }
-        _ => true,
+        _ => false,
     }
 }
 
-// Whether rule 9 is broken, from the last node to the first. Before, each leaf's entry in `effects` has its effect set; after, every node's
-// entries have its two sets.
-pub fn broken9(
-    policy: &[u8],
-    n: usize,
-    m: usize,
-    regulated: &mut [u64],
-    effects: &mut [u64],
-) -> bool
+// The first node whose sides interfere: the nodes go down, so the last that is found is the first. Before, each leaf's entry in `effects` has its effect
+// set; after, every node's entries have its two sets.
+pub fn wrong9(policy: &[u8], n: usize, m: usize, regulated: &mut [u64], effects: &mut [u64]) -> Spot
     requires { ⌜ Treed (now policy) n m ⌝ }
     requires { ⌜ LeafValues leafEffects (now policy) n (now effects) ⌝ }
     requires { ⌜ length (now regulated) ≡ mostNodes ⌝ }
-    ensures { λ r. ⌜ r ≡ broken9 (now (policy .entry)) ⌝ }
+    ensures { λ r. ⌜ spotOf r ≡ wrong9 (now (policy .entry)) ⌝ }
     ensures { λ r. ⌜ RegulatedFrom (now (policy .entry)) 0 n (now (regulated .exit)) ⌝ }
     ensures { λ r. ⌜ EffectsFrom (now (policy .entry)) 0 n (now (effects .exit)) ⌝ }
 {
-    let mut flags = [true; MOST_NODES];
+    let mut found = Spot::Nowhere;
     let mut i = n;
     while i > 0 {
         i -= 1;
-        let found = node_sets(policy, n, m, i, regulated, effects);
-        let apart = node_apart(policy, n, m, i, regulated, effects, &flags);
-        regulated[i] = found.regulated.bits;
-        effects[i] = found.effects.bits;
-        flags[i] = apart;
+        let crossed = node_crossed(policy, n, m, i, regulated, effects);
+        let sets = node_sets(policy, n, m, i, regulated, effects);
+        regulated[i] = sets.regulated.bits;
+        effects[i] = sets.effects.bits;
+        if crossed {
+            found = on_record(i);
+        }
     }
-    !flags[0]
+    found
 }

@@ -1,3 +1,4 @@
 pub mod Frame
 pub mod Rows
 mod Fields
+pub mod Unfit

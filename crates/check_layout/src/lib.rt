@@ -10,9 +10,12 @@ ghost use Rattle.spec_policy.specs.Tree.{nodeKind};
 ghost use Rattle.file_records.specs.Kinds.{stepValue};
 ghost use Rattle.spec_check.specs.Layout.{broken1, broken2, broken3, nodeFits, noAction, noFirst, noSecond, stepFits};
 ghost use Rattle.check_layout.specs.Frame.{Framed};
-ghost use Rattle.check_layout.specs.Fits.{nodesFit, stepsFit, ruleOr4};
+ghost use Rattle.check_layout.specs.Fits.{unfitNode, unfitStep, ruleOr4};
+ghost use Rattle.faults.specs.Meaning.{spotOf};
 use actions::ActionSet;
 use actions::LAST_ACTION;
+use faults::Spot;
+use faults::on_record;
 use file_records::ACASE;
 use file_records::END;
 use file_records::FRONT_SIZE;
@@ -204,34 +207,35 @@ pub fn read_step(policy: &[u8], at: usize) -> Read
 
 // ---- rule 4, of every record
 
-// Rule 4 of all nodes.
-pub fn nodes_fit(policy: &[u8], n: usize) -> bool
+// The first node that breaks rule 4.
+pub fn unfit_node(policy: &[u8], n: usize) -> Spot
     requires { ⌜ (n ≡ nodeCount (now policy)) × (n ≤ mostNodes) × (nodePlace n ≤ length (now policy)) ⌝ }
-    ensures { λ r. ⌜ r ≡ nodesFit (now (policy .entry)) ⌝ }
+    ensures { λ r. ⌜ spotOf r ≡ unfitNode (now (policy .entry)) ⌝ }
 {
     let mut i = 0;
     while i < n {
         if !node_fits(policy, node_place(i)) {
-            return false;
+            return on_record(i);
         }
         i += 1;
     }
-    true
+    Spot::Nowhere
 }
 
-// Rule 4 of m step records, which lie from `at` on.
-pub fn steps_fit(policy: &[u8], at: usize, m: usize) -> bool
-    requires { ⌜ at + stepSize * m ≤ length (now policy) ⌝ }
-    ensures { λ r. ⌜ r ≡ stepsFit (now (policy .entry)) at m ⌝ }
+// The first step record that breaks rule 4, counted from n on.
+pub fn unfit_step(policy: &[u8], n: usize, m: usize) -> Spot
+    requires { ⌜ Framed (now policy) n m ⌝ }
+    ensures { λ r. ⌜ spotOf r ≡ unfitStep (now (policy .entry)) ⌝ }
 {
+    let at = node_place(n);
     let mut i = 0;
     while i < m {
         if !step_fits(policy, at + STEP_SIZE * i) {
-            return false;
+            return on_record(n + i);
         }
         i += 1;
     }
-    true
+    Spot::Nowhere
 }
 
 // A rule that is broken is answered only where no step record breaks rule 4, which has the lower number.
@@ -239,9 +243,9 @@ pub fn rule_or_4(policy: &[u8], n: usize, m: usize, rule: u8) -> u8
     requires { ⌜ Framed (now policy) n m ⌝ }
     ensures { λ r. ⌜ r ≡ ruleOr4 (every stepFits (stepRecords (now (policy .entry)))) rule ⌝ }
 {
-    if steps_fit(policy, node_place(n), m) {
-        rule
-    } else {
-        4
+    let unfit = unfit_step(policy, n, m);
+    match unfit {
+        Spot::Nowhere => rule,
+        Spot::Record(_) => 4,
     }
 }

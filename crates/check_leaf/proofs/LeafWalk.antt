@@ -1,6 +1,6 @@
 -- The walk through a leaf, step after step: what is found so far, and what is left to walk. What is asked of a step by the marks and sets
 -- before it is what is asked of it by those at the end, as no step leads back but to a next.
-use Prim.Native.Nat.{ℕ, zero, suc, _+_, _*_, _-_, _≤_, _<_}
+use Prim.Native.Nat.{ℕ, suc, _+_, _*_, _-_, _≤_, _<_}
 use native.Mathlib.Omega.{arith}
 use mathlib.Core.Path.{_≡_, refl, sym, ap, ap₂, _∙_, subst}
 use mathlib.Core.Bool.{Bool, true, false, _&&_, _||_}
@@ -23,15 +23,15 @@ use Rattle.file_records.proofs.CodeLaws.{code-length, code-at}
 use Rattle.spec_check.specs.Targets.{targetFits, asksWithin, targetsFit}
 use Rattle.spec_check.specs.Layout.{stepFits}
 use Rattle.spec_check.specs.Modes.{Mode, idle, pending, closing, Mark, marked, walked, marks, modeFits, modesFit, stepped}
-use Rattle.spec_check.specs.Possible.{passOn, passedOn, possible, branchesTaken, allTaken}
+use Rattle.spec_check.specs.Possible.{passedOn, possible, branchesTaken, allTaken}
 use Rattle.spec_check.specs.Interference.{stepEffects, codeEffects, leafEffects}
 use Rattle.spec_check.specs.Spread.{insCount}
 use Rattle.spec_check.proofs.Ahead.{in-or-out, Suffix}
 use Rattle.check_targets.proofs.TargetLaws.{fitFrom, fit-whole, fit-rest, fit-over, test-inside}
 use Rattle.check_modes.specs.Table.{reaching}
 use Rattle.check_modes.specs.Marks.{word, Agrees, Aside, onceAt, allOnce, NextsBefore, NextsAre, othersFit, nextsFit}
-use Rattle.check_modes.proofs.Final.{walked-elsewhere, fits-by, modes-parts, once-nexts, not-all-once, once-asked}
-use Rattle.check_possible.proofs.PossibleLaws.{pass-length, pass-take, passed-elsewhere, branches-alone, effects-by}
+use Rattle.check_modes.proofs.Final.{walked-step, walked-elsewhere, fits-by, modes-parts, once-nexts, not-all-once, once-asked}
+use Rattle.check_possible.proofs.PossibleLaws.{pass-length, passed-step, passed-elsewhere, branches-alone, effects-by}
 use Rattle.actions.proofs.SetLaws.{has-empty, union-assoc, union-none, union-end}
 use Rattle.check_layout.specs.Fits.{stepsFit}
 use Rattle.check_steps.specs.declared.Walk.{Walk}
@@ -59,16 +59,6 @@ pub one-small : (b : Bool) → one b ≤ 1
 unfolding one
 one-small true = omega arith
 one-small false = omega arith
-
--- no action is possible before the walk
-pub none-possible : (n : ℕ) → n ≤ 64 → take n (replicate {A = ℕ} 64 0) ≡ replicate n EMPTY
-unfolding EMPTY
-none-possible n h = go n 64 h
-  where
-    go : (n m : ℕ) → n ≤ m → take n (replicate {A = ℕ} m 0) ≡ replicate {A = ℕ} n 0
-    go zero m h = refl
-    go (suc n) zero h = absurd (omega arith)
-    go (suc n) (suc m) h = ap (λ (l : List ℕ). 0 ∷ l) (go n m (omega arith))
 
 module _ (file : Bytes) (at count : ℕ) where
   abbrev pub stepIn : ℕ → Step
@@ -198,20 +188,12 @@ module _ (file : Bytes) (at count : ℕ) where
         fit-on = g .fit ∙ fit-rest r file at count o h ∙ ap (λ (b : Bool). b && fitFrom r file at count (o + 1)) tested
 
         walk-on : marks code ≡ walked (o + 1) (rest (o + 1)) (stepped o (stepIn o) (g .ks))
-        unfolding walked stepped
-        walk-on =
-            let z : suc o ≡ o + 1 = omega arith in
-            g .walk ∙ ap (λ (l : List Step). walked o l (g .ks)) rest-is ∙ ap (λ (n : ℕ). walked n (rest (o + 1)) (stepped o (stepIn o) (g .ks))) z
+        walk-on = g .walk ∙ ap (λ (l : List Step). walked o l (g .ks)) rest-is ∙ walked-step o (stepIn o) (rest (o + 1)) (g .ks)
 
         pass-on : possible r code ≡ passedOn r (o + 1) (rest (o + 1)) (take count sets′)
-        unfolding passedOn
         pass-on =
-            let z : suc o ≡ o + 1 = omega arith in
-            let now : passOn r (stepIn o) (getD (take count sets) o EMPTY) (take count sets) ≡ take count sets′ =
-            ap (λ (q : ActionSet). passOn r (stepIn o) q (take count sets)) (getD-take count sets o EMPTY h)
-            ∙ sym (pass-take count r (stepIn o) p sets inside) ∙ ap (take count) (sym (went .possible)) in
             g .pass ∙ ap (λ (l : List Step). passedOn r o l (take count sets)) rest-is
-            ∙ ap₂ (λ (n : ℕ) (ps : List ActionSet). passedOn r n (rest (o + 1)) ps) z now
+            ∙ passed-step count r o (stepIn o) (rest (o + 1)) sets sets′ h inside (went .possible)
 
         -- no step that is past is marked again, but a next
         not-target : (q : ℕ) → q ≤ o → isNext (getD code q halt) ≡ false → List·Memᴰ q (targets (stepIn o)) → ⊥

@@ -22,6 +22,7 @@ use Rattle.spec_check.specs.Layout.{nodeFits}
 use Rattle.spec_check.specs.Leaves.{everyLeaf}
 use Rattle.spec_check.specs.Numbers.{nodeStepsIn}
 use Rattle.spec_check.specs.Targets.{targetsFit, broken6}
+use Rattle.spec_check.proofs.Kept.{broken6-is}
 use Rattle.spec_check.proofs.Numbers.{node-in}
 use Rattle.spec_check.proofs.Rows.{leaf-owned, leaf-fits}
 use Rattle.check_layout.specs.Frame.{Framed}
@@ -81,7 +82,7 @@ node-counts file fits i h =
     (kind-counts (getD (nodes file) i noN) (nodeKind (getD (nodes file) i noN .kind)) refl
     (every-at (λ x. nodeFits (nodeKind (x .kind)) x) (nodes file) noN (of-yes _ fits) i (omega (arith, nodes-length file))))
 
-places-length : (file : Bytes) → length (nodesWithSteps file) ≡ nodeCount file
+pub places-length : (file : Bytes) → length (nodesWithSteps file) ≡ nodeCount file
 unfolding nodesWithSteps
 places-length file = placed-length (nodes file) (map stepOf (stepRecords file)) ∙ nodes-length file
 
@@ -184,11 +185,10 @@ module _ {file : Bytes} {n m : ℕ} (f : Framed file n m) where
   sum = summed (map stepsOwned (nodes file))
 
   pub six-sum : (b : Bool) → b ≡ eqb sum m → b ≡ false → broken6 file ≡ true
-  unfolding broken6
   six-sum b e h =
-      ap (λ (x : Bool). not x || not (everyLeaf targetsFit (nodesWithSteps file))) (ap (eqb sum) (sym (f .steps)) ∙ sym e ∙ h)
+      broken6-is file
+      ∙ ap (λ (x : Bool). not x || not (everyLeaf targetsFit (nodesWithSteps file))) (ap (eqb sum) (sym (f .steps)) ∙ sym e ∙ h)
 
   -- the leaves own all steps
   pub six-leaves : sum ≡ m → broken6 file ≡ not (everyLeaf targetsFit (nodesWithSteps file))
-  unfolding broken6
-  six-leaves e = ap (λ (x : Bool). not x || not (everyLeaf targetsFit (nodesWithSteps file))) (eq-eqb sum (stepCount file) (e ∙ f .steps))
+  six-leaves e = broken6-is file ∙ ap (λ (x : Bool). not x || not (everyLeaf targetsFit (nodesWithSteps file))) (eq-eqb sum (stepCount file) (e ∙ f .steps))

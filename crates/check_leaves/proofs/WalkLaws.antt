@@ -28,6 +28,7 @@ use Rattle.spec_check.specs.Targets.{targetsFit}
 use Rattle.spec_check.specs.Modes.{broken7}
 use Rattle.spec_check.specs.Possible.{allTaken, broken8}
 use Rattle.spec_check.specs.Interference.{leafEffects}
+use Rattle.spec_check.proofs.Kept.{broken7-is, broken8-is}
 use Rattle.spec_check.proofs.Ahead.{in-or-out}
 use Rattle.spec_check.proofs.Numbers.{node-read}
 use Rattle.check_leaf.specs.declared.Walked.{Walked}
@@ -243,12 +244,11 @@ module _ {file : Bytes} {n m : ℕ} (f : Framed file n m) (fits : nodesFit file 
     six-is = s .sixes ∙ leaves-over targetsFit file i over
 
     seven-is : broken7 file ≡ not modes
-    unfolding broken7 modesOf
-    seven-is = ap not (s .sevens ∙ ap (λ (b : Bool). modes && b) (leaves-over modesOf file i over) ∙ and-true modes)
+    unfolding modesOf
+    seven-is = broken7-is file ∙ ap not (s .sevens ∙ ap (λ (b : Bool). modes && b) (leaves-over modesOf file i over) ∙ and-true modes)
 
     eight-is : broken8 file ≡ not taken
-    unfolding broken8
-    eight-is = ap not (s .eights ∙ ap (λ (b : Bool). taken && b) (leaves-over allTaken file i over) ∙ and-true taken)
+    eight-is = broken8-is file ∙ ap not (s .eights ∙ ap (λ (b : Bool). taken && b) (leaves-over allTaken file i over) ∙ and-true taken)
 
     by : (modes′ taken′ : Bool) → modes ≡ modes′ → taken ≡ taken′
         → lowest false false (not modes′) (not taken′) ≡ lowest (not (every stepFits (stepRecords file))) (not (everyLeaf targetsFit (nodesWithSteps file))) (broken7 file) (broken8 file)

@@ -15,7 +15,7 @@ use Rattle.spec_policy.specs.Lists.{one, everyAt}
 use Rattle.spec_policy.specs.Steps.{Step, next, ok, sup, ins, acase, spend, end, halt, targets, isNext}
 use Rattle.spec_policy.proofs.ListLaws.{everyAt-from-0}
 use Rattle.spec_check.specs.Targets.{targetsFit}
-use Rattle.spec_check.specs.Modes.{Mode, idle, pending, closing, isIdle, isPending, isClosing, sameMode, stands, Mark, leads, marked, reachedBy, leadsIf, walked, stepped}
+use Rattle.spec_check.specs.Modes.{Mode, idle, pending, closing, isIdle, isPending, isClosing, sameMode, stands, Mark, onward, leads, marked, reachedBy, leadsIf, walked, stepped}
 use Rattle.spec_check.specs.Modes.{marks, modeFits, modesFit}
 use Rattle.spec_check.proofs.Ahead.{Suffix, suffix-head, suffix-tail, never-back}
 use Rattle.check_modes.specs.Marks.{word, Agrees, MarkedHere, NextsAre, onceAt, allOnce, othersFit, nextsFit}
@@ -33,16 +33,16 @@ module _ (o : ℕ) (m : Mode) where
       off false b = refl
 
   module _ (s : Step) (h : List·Memᴰ o (targets s) → ⊥) where
-    pub leads-elsewhere : (n : Mode) (ks : List Mark) → marked m o (leads s n ++ ks) ≡ marked m o ks
-    unfolding leads targets
-    leads-elsewhere n ks = go s h
+    onward-elsewhere : (n : Mode) (ks : List Mark) → marked m o (onward s n ++ ks) ≡ marked m o ks
+    unfolding onward targets
+    onward-elsewhere n ks = go s h
       where
         two : (a b : Mode) (t d : ℕ) → (List·Memᴰ o (t ∷ d ∷ []) → ⊥)
             → marked m o (record { mode = a; offset = t } ∷ record { mode = b; offset = d } ∷ ks) ≡ marked m o ks
         two a b t d g =
             one-elsewhere a t (record { mode = b; offset = d } ∷ ks) (λ e. g (List·Memᴰ·head e)) ∙ one-elsewhere b d ks (λ e. g (List·Memᴰ·tail (List·Memᴰ·head e)))
 
-        go : (s : Step) → (List·Memᴰ o (targets s) → ⊥) → marked m o (leads s n ++ ks) ≡ marked m o ks
+        go : (s : Step) → (List·Memᴰ o (targets s) → ⊥) → marked m o (onward s n ++ ks) ≡ marked m o ks
         go (next t d) g = two pending closing t d g
         go (ok t) g = one-elsewhere idle t ks (λ e. g (List·Memᴰ·head e))
         go (sup t) g = one-elsewhere idle t ks (λ e. g (List·Memᴰ·head e))
@@ -51,6 +51,15 @@ module _ (o : ℕ) (m : Mode) where
         go (spend a y z) g = two n n y z g
         go end g = refl
         go halt g = refl
+
+    -- and where it may not stand it marks nothing at all
+    pub leads-elsewhere : (n : Mode) (ks : List Mark) → marked m o (leads s n ++ ks) ≡ marked m o ks
+    unfolding leads
+    leads-elsewhere n ks = go (stands s n) refl
+      where
+        go : (b : Bool) → stands s n ≡ b → marked m o (leads s n ++ ks) ≡ marked m o ks
+        go true e = rw (e, leads) (onward-elsewhere n ks)
+        go false e = rw (e, leads) refl
 
     if-elsewhere : (b : Bool) (n : Mode) (ks : List Mark) → marked m o (leadsIf b s n ++ ks) ≡ marked m o ks
     unfolding leadsIf
@@ -264,3 +273,9 @@ once-asked seen ks o s l g e =
     let z = or-false (marked closing o ks) ∙ sym (g .at closing o l) in
     ap (λ (b : Bool). b && (not (reachedBy ks idle o s) || stands s idle) && (not (reachedBy ks pending o s) || stands s pending) && (not (reachedBy ks closing o s) || stands s closing))
     ((λ j. eqb (one (x j || isNext s) + one (y j) + one (z j)) 1) ∙ e)
+
+-- ---- one step of the walk
+
+pub walked-step : (o : ℕ) (s : Step) (ss : List Step) (ks : List Mark) → walked o (s ∷ ss) ks ≡ walked (o + 1) ss (stepped o s ks)
+unfolding walked stepped
+walked-step o s ss ks = let z : suc o ≡ o + 1 = omega arith in ap (λ (n : ℕ). walked n ss (stepped o s ks)) z

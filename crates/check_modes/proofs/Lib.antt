@@ -1,4 +1,4 @@
 pub mod Words
-mod Table
-mod ModeSteps
+pub mod Table
+pub mod ModeSteps
 pub mod Final

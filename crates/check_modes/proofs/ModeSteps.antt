@@ -11,11 +11,11 @@ use Rattle.actions.specs.Sets.{has}
 use Rattle.actions.proofs.Tests.{and-intro, and-left, and-right, and-true, true-not-false}
 use Rattle.spec_policy.specs.Lists.{one, every}
 use Rattle.spec_policy.specs.Steps.{Step, next, ok, sup, ins, acase, spend, end, halt, targets, isNext}
-use Rattle.spec_check.specs.Modes.{Mode, idle, pending, closing, isIdle, sameMode, Mark, leads, marked, reachedBy, leadsIf, modeFits, stepped}
+use Rattle.spec_check.specs.Modes.{Mode, idle, pending, closing, isIdle, sameMode, Mark, stands, onward, leads, marked, reachedBy, leadsIf, modeFits, stepped}
 use Rattle.check_modes.specs.declared.Marks.{Marks}
 use Rattle.check_modes.specs.declared.Led.{Led}
 use Rattle.check_modes.specs.Table.{modeNumber, entryAt, reaching, ledBy, mayStand, Tells}
-use Rattle.check_modes.specs.Marks.{word, Agrees, Adds, Aside, roomFor, onlyIf, fitsIn, followed, LedBy, onceAt, StepLed}
+use Rattle.check_modes.specs.Marks.{word, Agrees, Adds, Aside, roomFor, onlyIf, fitsIn, followed, LedBy, onceAt, StepLed, ReachedHere}
 use Rattle.check_modes.proofs.Final.{leads-elsewhere}
 
 -- ---- room for the marks
@@ -44,16 +44,24 @@ room-parts e first second t =
     let xs = reaching (e / 4 % 4) first in let ys = reaching (e % 4) second in
     (room-first xs ys t, room-second xs ys t)
 
+room-onward : (s : Step) (m : Mode) → T (every (λ t. ltb t 64) (targets s)) → T (roomFor (onward s m))
+unfolding roomFor every targets onward
+room-onward (next t d) m h = h
+room-onward (ok t) m h = h
+room-onward (sup t) m h = h
+room-onward (ins b t) m h = h
+room-onward (acase s y z) m h = h
+room-onward (spend n y z) m h = h
+room-onward end m h = h
+room-onward halt m h = h
+
 room-led : (s : Step) (m : Mode) → T (every (λ t. ltb t 64) (targets s)) → T (roomFor (leads s m))
-unfolding roomFor every targets leads
-room-led (next t d) m h = h
-room-led (ok t) m h = h
-room-led (sup t) m h = h
-room-led (ins b t) m h = h
-room-led (acase s y z) m h = h
-room-led (spend n y z) m h = h
-room-led end m h = h
-room-led halt m h = h
+unfolding roomFor every leads
+room-led s m h = go (stands s m) refl
+  where
+    go : (b : Bool) → stands s m ≡ b → T (roomFor (leads s m))
+    go true e = rw (e, leads) (room-onward s m h)
+    go false e = rw (e, leads) tt
 
 -- a step whose targets are inside leads where there is room
 pub room-step : (s : Step) (m : Mode) (kind first second e : ℕ) → Tells kind first second s m → T (every (λ t. ltb t 64) (targets s))
@@ -87,6 +95,17 @@ lead-both e first second x y z u v m q l =
 pub adds-agree : (v w : Marks) (new ks : List Mark) → Adds v w new → Agrees v ks → Agrees w (new ++ ks)
 unfolding Adds
 adds-agree v w new ks a g = record { at = λ m q l. a m q l ∙ ap (λ (t : Bool). marked m q new || t) (g .at m q l) ∙ sym (marked-both m q new ks) }
+
+-- two additions, one after the other
+pub adds-both : (x y z : Marks) (new more : List Mark) → Adds x y new → Adds y z more → Adds x z (more ++ new)
+unfolding Adds
+adds-both x y z new more u v m o l =
+    v m o l ∙ ap (λ (b : Bool). marked m o more || b) (u m o l) ∙ sym (or-assoc (marked m o more) (marked m o new) (has (word x m) o))
+    ∙ ap (λ (b : Bool). b || has (word x m) o) (sym (marked-both m o more new))
+
+pub adds-nothing : (x : Marks) → Adds x x []
+unfolding Adds marked
+adds-nothing x m o l = refl
 
 -- ---- reached in one mode: that one is followed
 
@@ -138,14 +157,8 @@ and-four true true false d = refl
 and-four true false c d = refl
 and-four false b c d = refl
 
--- the modes in which the step at o is reached, as the code finds them
-pub record Found (kind o : ℕ) (ks : List Mark) (i p c : Bool) : Type 0 where
-  pub idly : i ≡ (marked idle o ks || eqb kind 1)
-  pub pendingly : p ≡ marked pending o ks
-  pub closingly : c ≡ marked closing o ks
-
 module _ (s : Step) (kind first second : ℕ) (tells : (m : Mode) → Tells kind first second s m)
-    (o : ℕ) (ks : List Mark) (i p c : Bool) (f : Found kind o ks i p c) where
+    (o : ℕ) (ks : List Mark) (i p c : Bool) (f : ReachedHere kind i p c o ks) where
   idly-reached : i ≡ reachedBy ks idle o s
   unfolding reachedBy isIdle
   idly-reached = f .idly ∙ ap (λ (t : Bool). marked idle o ks || t) (sym (tells idle .next))
@@ -167,7 +180,7 @@ module _ (s : Step) (kind first second : ℕ) (tells : (m : Mode) → Tells kind
       go true = sym (tells m .led)
       go false = refl
 
-  lead-law : (before after : Marks)
+  pub lead-law : (before after : Marks)
       → Adds before after (onlyIf i (ledBy (entryAt kind 0) first second)
       ++ (onlyIf p (ledBy (entryAt kind 1) first second) ++ onlyIf c (ledBy (entryAt kind 2) first second)))
       → Agrees before ks → Agrees after (stepped o s ks)
@@ -178,7 +191,7 @@ module _ (s : Step) (kind first second : ℕ) (tells : (m : Mode) → Tells kind
       (append-three (onlyIf i (ledBy (entryAt kind 0) first second)) (onlyIf p (ledBy (entryAt kind 1) first second))
       (onlyIf c (ledBy (entryAt kind 2) first second)) ks ∙ (λ j. u j ++ (v j ++ (w j ++ ks)))) (adds-agree before after _ ks x g)
 
-  fits-law : fitsIn (entryAt kind 0) (entryAt kind 1) (entryAt kind 2) i p c ≡ modeFits ks o s
+  pub fits-law : fitsIn (entryAt kind 0) (entryAt kind 1) (entryAt kind 2) i p c ≡ modeFits ks o s
   unfolding modeFits modeNumber fitsIn
   fits-law =
       let x = idly-reached in let y = pendingly-reached in let z = closingly-reached in
@@ -229,7 +242,7 @@ module _ (s : Step) (kind first second : ℕ) (tells : (m : Mode) → Tells kind
       c : Bool
       c = has (seen .closing) o
 
-      found : (ks : List Mark) → Agrees seen ks → Found kind o ks i p c
+      found : (ks : List Mark) → Agrees seen ks → ReachedHere kind i p c o ks
       found ks g = record { idly = (λ j. g .at idle o l j || tells idle .next j); pendingly = g .at pending o l; closingly = g .at closing o l }
 
       entry : followed e₀ e₁ e₂ p c ≡ followed (entryAt kind 0) (entryAt kind 1) (entryAt kind 2) p c
@@ -251,27 +264,45 @@ module _ (s : Step) (kind first second : ℕ) (tells : (m : Mode) → Tells kind
       aside false true x y = aside-by closing ((λ j. followed e₀ e₁ e₂ (x j) (y j)) ∙ q₂) seen (r .marks) (d .adds)
       aside false false x y = aside-by idle ((λ j. followed e₀ e₁ e₂ (x j) (y j)) ∙ q₀) seen (r .marks) (d .adds)
 
--- ---- a next: it leads to the same in every mode, so that what it leads to idle is all
-
--- marks that are there already
-again : (m : Mode) (o : ℕ) (xs ys : List Mark) → marked m o (xs ++ (xs ++ ys)) ≡ marked m o (xs ++ ys)
-again m o xs ys = marked-both m o xs (xs ++ ys) ∙ ap (λ (b : Bool). marked m o xs || b) (marked-both m o xs ys) ∙ same (marked m o xs) (marked m o ys) ∙ sym (marked-both m o xs ys)
-  where
-    same : (a b : Bool) → (a || (a || b)) ≡ (a || b)
-    same true b = refl
-    same false b = refl
+-- ---- a next: it counts as reached idle, and leads nowhere in the other modes, where it may not stand
 
 pub next-led : (t d o : ℕ) (ks : List Mark) (w : Marks) → Agrees w (leads (next t d) idle ++ ks) → Agrees w (stepped o (next t d) ks)
-unfolding stepped leadsIf reachedBy isNext isIdle leads
+unfolding stepped leadsIf reachedBy isNext isIdle stands onward leads
 next-led t d o ks w g = record { at = λ m q h. g .at m q h ∙ sym (all m q (marked idle o ks || true) (marked pending o ks || false) (marked closing o ks || false) (or-true (marked idle o ks))) }
   where
-    xs : List Mark
-    xs = leads (next t d) idle
-
     all : (m : Mode) (q : ℕ) (a b c : Bool) → a ≡ true
         → marked m q (leadsIf a (next t d) idle ++ (leadsIf b (next t d) pending ++ (leadsIf c (next t d) closing ++ ks))) ≡ marked m q (leads (next t d) idle ++ ks)
-    all m q true true true e = again m q xs (xs ++ ks) ∙ again m q xs ks
-    all m q true true false e = again m q xs ks
-    all m q true false true e = again m q xs ks
+    all m q true true true e = refl
+    all m q true true false e = refl
+    all m q true false true e = refl
     all m q true false false e = refl
     all m q false b c e = true-not-false refl (sym e)
+
+-- ---- the test of a step by all marks
+
+module _ (e f h : ℕ) (i c : Bool) where
+  pub fits-pending : {p : Bool} → p ≡ true → ((not i && not c) && mayStand f) ≡ fitsIn e f h i p c
+  unfolding fitsIn one
+  fits-pending t = rw t (go i c)
+    where
+      go : (i c : Bool) → ((not i && not c) && mayStand f) ≡ fitsIn e f h i true c
+      go true true = refl
+      go true false = refl
+      go false true = refl
+      go false false = sym (and-true (mayStand f))
+
+  pub fits-closing : {p : Bool} → p ≡ false → c ≡ true → (not i && mayStand h) ≡ fitsIn e f h i p c
+  unfolding fitsIn one
+  fits-closing t u = rw (t, u) (go i)
+    where
+      go : (i : Bool) → (not i && mayStand h) ≡ fitsIn e f h i false true
+      go true = refl
+      go false = refl
+
+  pub fits-idle : {p : Bool} → p ≡ false → c ≡ false → (i && mayStand e) ≡ fitsIn e f h i p c
+  unfolding fitsIn one
+  fits-idle t u = rw (t, u) (go i)
+    where
+      go : (i : Bool) → (i && mayStand e) ≡ fitsIn e f h i false false
+      go true = sym (ap (λ (b : Bool). b && true) (and-true (mayStand e)) ∙ and-true (mayStand e))
+      go false = refl

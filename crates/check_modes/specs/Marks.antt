@@ -1,5 +1,5 @@
 -- How the mode pass keeps its marks: a word for each mode, read as the set of the offsets that are marked in it.
-use Prim.Native.Nat.{ℕ, _+_, _<_}
+use Prim.Native.Nat.{ℕ, _+_, _≤_, _<_}
 use mathlib.Core.Path.{_≡_}
 use mathlib.Core.Bool.{Bool, true, false, _&&_, _||_, not}
 use mathlib.Core.List.{List, [], List·Memᴰ}
@@ -11,7 +11,8 @@ use Rattle.spec_policy.specs.Steps.{Step, halt, targets, isNext}
 use Rattle.spec_check.specs.Modes.{Mode, idle, pending, closing, Mark, marked, stepped, marks, modeFits}
 use Rattle.check_modes.specs.declared.Marks.{Marks}
 use Rattle.check_modes.specs.declared.Led.{Led}
-use Rattle.check_modes.specs.Table.{ledBy, mayStand}
+use Rattle.check_modes.specs.declared.Row.{Row}
+use Rattle.check_modes.specs.Table.{modeNumber, entryAt, ledBy, mayStand, Tells}
 
 -- 64 offsets, as an action set is 64 actions
 unfoldable pub word : Marks → Mode → ActionSet
@@ -88,3 +89,21 @@ NextsAre nexts code = (o : ℕ) → has nexts o ≡ isNext (getD code o halt)
 
 unfoldable pub nextsFit : List Step → Bool
 nextsFit code = everyAt (λ o s. not (isNext s) || modeFits (marks code) o s) 0 code
+
+-- ---- every mode in which a step is reached
+
+-- the modes in which the step at an offset is reached, by its kind: every next counts as reached idle
+pub record ReachedHere (kind : ℕ) (i p c : Bool) (o : ℕ) (ks : List Mark) : Type 0 where
+  pub idly : i ≡ (marked idle o ks || eqb kind 1)
+  pub pendingly : p ≡ marked pending o ks
+  pub closingly : c ≡ marked closing o ks
+
+-- a row of the table, whose targets the words have room for in every mode that it leads to
+pub record RowRoom (row : Row) : Type 0 where
+  pub low : 1 ≤ row .kind
+  pub high : row .kind ≤ 8
+  pub room : (m : Mode) → T (roomFor (ledBy (entryAt (row .kind) (modeNumber m)) (row .first) (row .second)))
+
+-- the row is the step's
+abbrev pub IsRow : Row → Step → Type 0
+IsRow row s = (m : Mode) → Tells (row .kind) (row .first) (row .second) s m

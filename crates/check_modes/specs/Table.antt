@@ -15,18 +15,18 @@ modeNumber pending = 1
 modeNumber closing = 2
 
 -- An entry is a number of three digits: 1 where the step may stand, the mode in which it reaches its first target and that of its
--- second. The mode of a target that the kind does not have is 3.
+-- second. The mode of a target that the kind does not have, or does not reach from there, is 3.
 abbrev entry : ℕ → ℕ → ℕ → ℕ
 entry may first second = 16 * may + 4 * first + second
 
 -- A row for each kind of step, from 1 on. `table-ruled` holds every entry to the rule.
 unfoldable pub table : List (List ℕ)
 table =
-    (entry 1 1 2 ∷ entry 0 1 2 ∷ entry 0 1 2 ∷ [])  -- next
-    ∷ (entry 0 0 3 ∷ entry 1 0 3 ∷ entry 0 0 3 ∷ [])  -- ok
-    ∷ (entry 0 0 3 ∷ entry 1 0 3 ∷ entry 0 0 3 ∷ [])  -- sup
+    (entry 1 1 2 ∷ entry 0 3 3 ∷ entry 0 3 3 ∷ [])  -- next
+    ∷ (entry 0 3 3 ∷ entry 1 0 3 ∷ entry 0 3 3 ∷ [])  -- ok
+    ∷ (entry 0 3 3 ∷ entry 1 0 3 ∷ entry 0 3 3 ∷ [])  -- sup
     ∷ (entry 1 0 3 ∷ entry 1 1 3 ∷ entry 1 2 3 ∷ [])  -- ins
-    ∷ (entry 0 0 0 ∷ entry 1 1 1 ∷ entry 0 2 2 ∷ [])  -- acase
+    ∷ (entry 0 3 3 ∷ entry 1 1 1 ∷ entry 0 3 3 ∷ [])  -- acase
     ∷ (entry 1 0 0 ∷ entry 1 1 1 ∷ entry 1 2 2 ∷ [])  -- spend
     ∷ (entry 1 3 3 ∷ entry 1 3 3 ∷ entry 1 3 3 ∷ [])  -- end
     ∷ (entry 1 3 3 ∷ entry 1 3 3 ∷ entry 1 3 3 ∷ [])  -- halt

@@ -7,9 +7,10 @@ ghost use lib.Dec.{T, eqb, ltb};
 ghost use lib.ListN.{length};
 ghost use Rattle.actions.specs.Sets.{has};
 ghost use Rattle.spec_policy.specs.Steps.{Step, next, ok, sup, ins, acase, spend, end, halt};
-ghost use Rattle.spec_check.specs.Modes.{Mark, stepped};
+ghost use Rattle.spec_check.specs.Modes.{Mark, stepped, modeFits};
 ghost use Rattle.check_modes.specs.Table.{entryAt, reaching, mayStand, ledBy};
 ghost use Rattle.check_modes.specs.Marks.{Agrees, Adds, Aside, roomFor, followed, LedBy, StepLed, NextsAre, allOnce};
+ghost use Rattle.check_modes.specs.Marks.{onlyIf, ReachedHere, RowRoom, IsRow};
 ghost use Rattle.spec_policy.specs.Records.{mostLeafSteps};
 use actions::ActionSet;
 use file_records::ACASE;
@@ -30,13 +31,13 @@ const CLOSING: usize = 2;
 
 // The mode rule, a row for each kind of step and a column for each mode. An entry has three digits:
 // whether the kind may stand there, the mode in which it reaches its first target, and that of its second. A target that the kind
-// does not have has mode 3.
+// does not have, or does not reach since it may not stand there, has mode 3.
 const TABLE: [[u8; 3]; 8] = [
-    [0b1_01_10, 0b0_01_10, 0b0_01_10], // next
-    [0b0_00_11, 0b1_00_11, 0b0_00_11], // ok
-    [0b0_00_11, 0b1_00_11, 0b0_00_11], // sup
+    [0b1_01_10, 0b0_11_11, 0b0_11_11], // next
+    [0b0_11_11, 0b1_00_11, 0b0_11_11], // ok
+    [0b0_11_11, 0b1_00_11, 0b0_11_11], // sup
     [0b1_00_11, 0b1_01_11, 0b1_10_11], // ins
-    [0b0_00_00, 0b1_01_01, 0b0_10_10], // acase
+    [0b0_11_11, 0b1_01_01, 0b0_11_11], // acase
     [0b1_00_00, 0b1_01_01, 0b1_10_10], // spend
     [0b1_11_11, 0b1_11_11, 0b1_11_11], // end
     [0b1_11_11, 0b1_11_11, 0b1_11_11], // halt
@@ -305,4 +306,72 @@ pub fn each_once(nexts: u64, count: usize, seen: Marks) -> bool
         bits: (idle & seen.pending) | (idle & seen.closing) | (seen.pending & seen.closing),
     };
     all.within(reached) & !all.meets(twice)
+}
+
+// ---- every mode in which a step is reached, for who asks which step breaks the rule. The walk does without: it follows one mode, for it only asks
+// whether there is such a step.
+
+// A step as its kind's row and its two targets.
+pub struct Row {
+    pub kind: u8,
+    pub first: usize,
+    pub second: usize,
+}
+
+// The modes in which one offset is marked.
+struct Here {
+    idle: bool,
+    pending: bool,
+    closing: bool,
+}
+
+// The modes in which the step at an offset is reached: every next counts as reached idle.
+fn reached(row: Row, o: usize, seen: Marks) -> Here
+    requires { ⌜ o < mostLeafSteps ⌝ }
+    ensures { λ r. ⌜ ((ks : List Mark) → Agrees seen ks → ReachedHere (row .kind) (r .idle) (r .pending) (r .closing) o ks) ⌝ }
+{
+    Here {
+        idle: has_bit(seen.idle, o) | (row.kind == NEXT),
+        pending: has_bit(seen.pending, o),
+        closing: has_bit(seen.closing, o),
+    }
+}
+
+// Marks what the step leads to in one mode, if it is reached in it.
+fn lead_if(reached: bool, row: Row, mode: usize, seen: Marks) -> Marks
+    requires { ⌜ (1 ≤ row .kind) × (row .kind ≤ 8) × (mode < 3) ⌝ }
+    requires { ⌜ T (roomFor (ledBy (entryAt (row .kind) mode) (row .first) (row .second))) ⌝ }
+    ensures { λ r. ⌜ Adds seen r (onlyIf reached (ledBy (entryAt (row .kind) mode) (row .first) (row .second))) ⌝ }
+{
+    if !reached {
+        return seen;
+    }
+    let led = lead_in(entry(row.kind, mode), row.first, row.second, seen);
+    led.marks
+}
+
+// The marks after a step, whatever the modes in which it is reached.
+pub fn lead_all(row: Row, o: usize, seen: Marks) -> Marks
+    requires { ⌜ (o < mostLeafSteps) × RowRoom row ⌝ }
+    ensures { λ r. ⌜ ((s : Step) (ks : List Mark) → IsRow row s → Agrees seen ks → Agrees r (stepped o s ks)) ⌝ }
+{
+    let here = reached(row, o, seen);
+    let closing = lead_if(here.closing, row, CLOSING, seen);
+    let pending = lead_if(here.pending, row, PENDING, closing);
+    lead_if(here.idle, row, IDLE, pending)
+}
+
+// By all marks of the leaf: the step is reached in one mode, and may stand there.
+pub fn fits_all(row: Row, o: usize, seen: Marks) -> bool
+    requires { ⌜ (o < mostLeafSteps) × (1 ≤ row .kind) × (row .kind ≤ 8) ⌝ }
+    ensures { λ r. ⌜ ((s : Step) (ks : List Mark) → IsRow row s → Agrees seen ks → r ≡ modeFits ks o s) ⌝ }
+{
+    let here = reached(row, o, seen);
+    if here.pending {
+        return !here.idle & !here.closing & stands(entry(row.kind, PENDING));
+    }
+    if here.closing {
+        return !here.idle & stands(entry(row.kind, CLOSING));
+    }
+    here.idle & stands(entry(row.kind, IDLE))
 }

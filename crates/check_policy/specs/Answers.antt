@@ -1,14 +1,16 @@
--- What the check's enum stands for: its answer with document 01's numbers.
-use Prim.Native.Nat.{ℕ}
+-- What the check's enum stands for: its answer with document 01's numbers, and document 02's places.
+use Rattle.spec_policy.specs.Spots.{Fault, bareFault}
 use Rattle.spec_check.specs.Check.{Answer, passes, refused}
+use Rattle.faults.specs.Meaning.{faultOf}
 use Rattle.check_policy.specs.declared.Checked.{Checked}
 use Rattle.check_policy.specs.declared.Checked.the-variants.{Passed, Refused}
 
 unfoldable pub answered : Checked → Answer
+unfolding faultOf
 answered (Passed r e) = passes (r .bits) (e .bits)
-answered (Refused n) = refused n
+answered (Refused f) = refused (faultOf f)
 
--- the number of a refusal; no rule has number 0, so that is the number of a pass
-unfoldable pub refusalNumber : Answer → ℕ
-refusalNumber (passes r e) = 0
-refusalNumber (refused n) = n
+-- the refusal; no rule has number 0, so that is the number of a pass
+unfoldable pub refusalOf : Answer → Fault
+refusalOf (passes r e) = bareFault 0
+refusalOf (refused f) = f

@@ -1,12 +1,12 @@
 -- What a step makes of what is possible at it: that a walk leaves alone what is
 -- possible at an earlier step, unless that is a next.
-use Prim.Native.Nat.{ℕ, suc, _<_, _≤_}
+use Prim.Native.Nat.{ℕ, zero, suc, _+_, _<_, _≤_}
 use native.Mathlib.Omega.{arith}
 use mathlib.Core.Path.{_≡_, refl, sym, ap, ap₂, _∙_, subst}
 use mathlib.Core.Bool.{false, not, _&&_}
 use mathlib.Core.List.{List, [], _∷_, List·Memᴰ, List·Memᴰ·head, List·Memᴰ·tail}
 use lib.Dec.{T, ltb, ltb→lt}
-use lib.ListN.{length, getD, set, take, length-set}
+use lib.ListN.{length, getD, set, take, replicate, length-set}
 use lib.Seq.{getD-set-other, take-set-lt, getD-take}
 use Rattle.actions.specs.Sets.{ActionSet, EMPTY, union, common, difference, isEmpty}
 use Rattle.actions.proofs.Tests.{and-left, and-right}
@@ -69,6 +69,26 @@ pass-take n r (acase s y z) p ps h = joins-take n ps y z (common p s) (differenc
 pass-take n r (spend m y z) p ps h = joins-take n ps y z p p (first-inside n y (z ∷ []) h) (second-inside n y z [] h)
 pass-take n r end p ps h = refl
 pass-take n r halt p ps h = refl
+
+-- one step of the walk over the words
+pub passed-step : (n : ℕ) (r : ActionSet) (o : ℕ) (s : Step) (ss : List Step) (sets after : List ActionSet) → o < n → T (every (λ (u : ℕ). ltb u n) (targets s))
+    → after ≡ passOn r s (getD sets o EMPTY) sets → passedOn r o (s ∷ ss) (take n sets) ≡ passedOn r (o + 1) ss (take n after)
+unfolding passedOn
+passed-step n r o s ss sets after h inside e =
+    let z : suc o ≡ o + 1 = omega arith in
+    let now : passOn r s (getD (take n sets) o EMPTY) (take n sets) ≡ take n after =
+    ap (λ (q : ActionSet). passOn r s q (take n sets)) (getD-take n sets o EMPTY h) ∙ sym (pass-take n r s (getD sets o EMPTY) sets inside) ∙ ap (take n) (sym e) in
+    ap₂ (λ (k : ℕ) (ps : List ActionSet). passedOn r k ss ps) z now
+
+-- no action is possible before the walk
+pub none-possible : (n : ℕ) → n ≤ 64 → take n (replicate {A = ℕ} 64 0) ≡ replicate n EMPTY
+unfolding EMPTY
+none-possible n h = go n 64 h
+  where
+    go : (n m : ℕ) → n ≤ m → take n (replicate {A = ℕ} m 0) ≡ replicate {A = ℕ} n 0
+    go zero m h = refl
+    go (suc n) zero h = absurd (omega arith)
+    go (suc n) (suc m) h = ap (λ (l : List ℕ). 0 ∷ l) (go n m (omega arith))
 
 -- ---- the walk leaves alone what is possible at an earlier step
 

@@ -1,10 +1,10 @@
--- Spreads cut off at 256: a pair's is made of its children's, and the root's tells rule 10.
+-- Spreads cut off at 256: a pair's is made of its children's, and each tells rule 10 of its node.
 --
 use Prim.Native.Nat.{ℕ, suc, _+_, _*_, _≤_, _<_}
 use native.Mathlib.Nat.{add-mul, mul-suc, mul-le-mul}
 use native.Mathlib.Omega.{arith}
 use mathlib.Core.Path.{_≡_, refl, sym, ap, ap₂, _∙_, subst}
-use mathlib.Core.Bool.{Bool, true, false, _&&_, not}
+use mathlib.Core.Bool.{Bool, true, false, not}
 use mathlib.Core.List.{List, [], _∷_}
 use lib.Dec.{leb, eqb}
 use lib.ListN.{length, getD, set, length-set}
@@ -13,16 +13,19 @@ use borrow.Author.Tests.{leb-true, leb-false, le-leb, lt-leb, eqb-true, eqb-fals
 use Rattle.spec_policy.specs.Bytes.{Bytes}
 use Rattle.spec_policy.specs.Records.{Node, nodeAt, mostNodes, nodePlace, nodeCount}
 use Rattle.spec_policy.specs.Steps.{Step, isIns}
-use Rattle.spec_policy.specs.Tree.{Way, parallel, sequential, NodeKind, aLeaf, aTrivial, anUnsatisfiable, aPair, noNode, nodeKind, nodesWithSteps, Tree, leaf, trivial, unsatisfiable, node}
-use Rattle.spec_check.specs.Spread.{insCount, spreadOf, spread, narrow, broken10}
+use Rattle.spec_policy.specs.Tree.{Way, parallel, sequential, NodeKind, aLeaf, aTrivial, anUnsatisfiable, aPair, noNode, nodeKind, nodesWithSteps}
+use Rattle.spec_policy.specs.Spots.{Spot, nowhere, onRecord, firstOff}
+use Rattle.spec_policy.proofs.FirstLoop.{firstFrom, none-from, found-from, kept-from, all-from}
+use Rattle.spec_check.specs.Spread.{insCount, spreadOf, spread, wrong10}
 use Rattle.spec_check.specs.Layout.{broken4}
 use Rattle.spec_check.specs.Children.{broken5}
 use Rattle.spec_check.specs.Targets.{broken6}
 use Rattle.spec_check.specs.Numbers.{nodeStepsIn, shaped}
-use Rattle.spec_check.proofs.Numbers.{kind-read, tree-read, children-read, tree-top}
+use Rattle.spec_check.proofs.Numbers.{kind-read, tree-read, children-read}
 use Rattle.spec_check.proofs.Rows.{leaf-steps}
 use Rattle.spec_policy.specs.Tree.{treeAt}
 use Rattle.check_layout.specs.Frame.{Framed}
+use Rattle.check_layout.proofs.Frame.{node-list}
 use Rattle.check_leaves.specs.Leaves.{insertsIn, LeafValues}
 use Rattle.check_spread.specs.Spreads.{cap, capped, cappedBy, cappedNode, Kept}
 use Rattle.spec_policy.proofs.ListLaws.{one-most}
@@ -77,38 +80,43 @@ cap-pair w l r =
     over : 255 < spreadOf w (cap l) (cap r) → 255 < spreadOf w l r → cap (spreadOf w (cap l) (cap r)) ≡ cap (spreadOf w l r)
     over h k = cap-high (spreadOf w (cap l) (cap r)) h ∙ sym (cap-high (spreadOf w l r) k)
 
--- ---- the whole tree
+-- ---- rule 10
 
-both-below : (l r s : ℕ) → l ≤ s → r ≤ s → (leb l 255 && leb r 255 && leb s 255) ≡ leb s 255
-both-below l r s h k = go (leb s 255) refl
-  where
-    go : (b : Bool) → leb s 255 ≡ b → (leb l 255 && leb r 255 && leb s 255) ≡ leb s 255
-    go true e = let z : s ≤ 255 = leb-true s 255 e in rw (le-leb l 255 (omega arith), le-leb r 255 (omega arith))
-    go false e = ap (λ (b : Bool). leb l 255 && leb r 255 && b) e ∙ last (leb l 255) (leb r 255) ∙ sym e
+-- what is kept of a node tells whether it is too wide
+wide-test : (s : ℕ) → eqb (cap s) 256 ≡ not (leb s 255)
+wide-test s =
+    cap-by s (λ h e. ne-eqb (cap s) 256 (λ z. omega arith) ∙ sym (ap not (le-leb s 255 h)))
+    (λ h e. eq-eqb (cap s) 256 e ∙ sym (ap not (lt-leb s 255 h)))
+
+abbrev pub narrowAt : Bytes → ℕ → Node → Bool
+narrowAt file i x = leb (spread (treeAt file i)) 255
+
+-- the first node from i on that is too wide
+abbrev pub wideFrom : Bytes → ℕ → ℕ → Spot
+wideFrom file n i = firstFrom (narrowAt file) (λ i. nodeAt file (nodePlace i)) n i
+
+module _ (file : Bytes) (n : ℕ) where
+  module _ {i v : ℕ} (h : i < n) (e : v ≡ capped (treeAt file i)) where
+    test : (b : Bool) → eqb v 256 ≡ b → leb (spread (treeAt file i)) 255 ≡ not b
+    unfolding capped
+    test b t = swap (leb (spread (treeAt file i)) 255) b (sym (wide-test (spread (treeAt file i))) ∙ ap (λ (x : ℕ). eqb x 256) (sym e) ∙ t)
       where
-        last : (p q : Bool) → (p && q && false) ≡ false
-        last true true = refl
-        last true false = refl
-        last false q = refl
+        swap : (x b : Bool) → not x ≡ b → x ≡ not b
+        swap true b t = ap not t
+        swap false b t = ap not t
 
--- the greatest spread is the root's
-narrow-root : (t : Tree) → narrow t ≡ leb (spread t) 255
-unfolding narrow spread
-narrow-root (leaf i r c code) = refl
-narrow-root (trivial i) = refl
-narrow-root (unsatisfiable i) = refl
-narrow-root (node w j i l r) =
-    ap₂ (λ (p q : Bool). p && q && leb (spreadOf w (spread l) (spread r)) 255) (narrow-root l) (narrow-root r)
-    ∙ both-below (spread l) (spread r) (spreadOf w (spread l) (spread r)) (grows w (spread l) (spread r) .0) (grows w (spread l) (spread r) .1)
+    pub wide-found : v ≡ 256 → onRecord i ≡ wideFrom file n i
+    wide-found t = found-from (narrowAt file) (λ i. nodeAt file (nodePlace i)) n i h (test true (eq-eqb v 256 t))
 
-pub ten : (file : Bytes) → eqb (capped (treeAt file 0)) 256 ≡ broken10 file
-unfolding capped broken10
-ten file = over (spread (treeAt file 0)) ∙ ap not (sym (narrow-root (treeAt file 0)) ∙ ap narrow (sym (tree-top file)))
-  where
-    over : (s : ℕ) → eqb (cap s) 256 ≡ not (leb s 255)
-    over s =
-        cap-by s (λ h e. ne-eqb (cap s) 256 (λ z. omega arith) ∙ sym (ap not (le-leb s 255 h)))
-        (λ h e. eq-eqb (cap s) 256 e ∙ sym (ap not (lt-leb s 255 h)))
+    pub wide-kept : (v ≡ 256 → ⊥) → wideFrom file n (i + 1) ≡ wideFrom file n i
+    wide-kept t = kept-from (narrowAt file) (λ i. nodeAt file (nodePlace i)) n i h (test false (ne-eqb v 256 t))
+
+  pub wide-none : nowhere ≡ wideFrom file n n
+  wide-none = none-from (narrowAt file) (λ i. nodeAt file (nodePlace i)) n n (omega arith)
+
+pub wide-all : {file : Bytes} {n m : ℕ} → Framed file n m → wideFrom file n 0 ≡ wrong10 file
+unfolding wrong10 nodePlace
+wide-all {file} {n} f = all-from (narrowAt file) (λ i. nodeAt file (nodePlace i)) n ∙ ap (λ (l : List Node). firstOff (narrowAt file) 0 l) (sym (node-list f))
 
 -- ---- a leaf
 
@@ -157,6 +165,7 @@ kept-more file n i v caps h e kept =
 -- what the code knows of node i once the nodes after it are kept: its record begins at `place`
 pub record Here (file : Bytes) (n i place ins : ℕ) (caps : List ℕ) : Type 0 where
   pub kept : Kept (nodeAt file place) caps
+  pub is : (v : ℕ) → v ≡ cappedNode (nodeAt file place) ins caps → v ≡ capped (treeAt file i)
   pub more : (v : ℕ) → v ≡ cappedNode (nodeAt file place) ins caps → KeptFrom file n i (set caps i v)
 
 module _ {file : Bytes} {n m : ℕ} (f : Framed file n m) (four : broken4 file ≡ false) (five : broken5 file ≡ false) (six : broken6 file ≡ false)
@@ -196,5 +205,6 @@ module _ {file : Bytes} {n m : ℕ} (f : Framed file n m) (four : broken4 file �
   pub here : Here file n i place (getD held i 0) caps
   here = record {
     kept = record { inside = λ w j k. let y = children-read file inside p five k in (omega (arith, kept .size), omega (arith, kept .size)); most = kept .most };
+    is = λ v g. g ∙ node-capped;
     more = λ v g. kept-more file n i v caps (omega arith) (g ∙ node-capped) (subst (λ (k : ℕ). KeptFrom file n k caps) up kept);
   }

@@ -5,14 +5,18 @@ ghost use mathlib.Core.Bool.{false};
 ghost use Prim.Native.Nat.{_+_, _≤_};
 ghost use lib.ListN.{length};
 ghost use Rattle.spec_policy.specs.Records.{nodeSize, nodeAt};
+ghost use Rattle.spec_policy.specs.Tree.{treeAt};
 ghost use Rattle.file_records.specs.Kinds.{wayOf};
 ghost use Rattle.spec_check.specs.Layout.{broken4};
 ghost use Rattle.spec_check.specs.Children.{broken5};
 ghost use Rattle.spec_check.specs.Targets.{broken6};
-ghost use Rattle.spec_check.specs.Spread.{spreadOf, broken10};
+ghost use Rattle.spec_check.specs.Spread.{spreadOf, wrong10};
+ghost use Rattle.faults.specs.Meaning.{spotOf};
 ghost use Rattle.check_layout.specs.Frame.{Framed};
 ghost use Rattle.check_leaves.specs.Leaves.{insertsIn, LeafValues};
-ghost use Rattle.check_spread.specs.Spreads.{cap, cappedNode, Kept};
+ghost use Rattle.check_spread.specs.Spreads.{cap, capped, cappedNode, Kept};
+use faults::Spot;
+use faults::on_record;
 use file_records::Kind;
 use file_records::MOST_NODES;
 use file_records::Way;
@@ -57,14 +61,37 @@ fn node_spread(policy: &[u8], place: usize, inserts: u32, caps: &[u32]) -> u32
     }
 }
 
-// The walk through each leaf has counted its ins steps.
-pub fn broken10(policy: &[u8], n: usize, m: usize, inserts: &[u32]) -> bool
+// The first node that is too wide. The walk through each leaf has counted its ins steps; the nodes go down, so the last that is found is the first.
+pub fn wrong10(policy: &[u8], n: usize, m: usize, inserts: &[u32]) -> Spot
     requires { ⌜ Framed (now policy) n m ⌝ }
     requires { ⌜ broken4 (now policy) ≡ false ⌝ }
     requires { ⌜ broken5 (now policy) ≡ false ⌝ }
     requires { ⌜ broken6 (now policy) ≡ false ⌝ }
     requires { ⌜ LeafValues insertsIn (now policy) n (now inserts) ⌝ }
-    ensures { λ r. ⌜ r ≡ broken10 (now (policy .entry)) ⌝ }
+    ensures { λ r. ⌜ spotOf r ≡ wrong10 (now (policy .entry)) ⌝ }
+{
+    let mut caps = [0u32; MOST_NODES];
+    let mut found = Spot::Nowhere;
+    let mut i = n;
+    while i > 0 {
+        i -= 1;
+        let spread = node_spread(policy, node_place(i), inserts[i], &caps);
+        caps[i] = spread;
+        if spread == TOO_WIDE {
+            found = on_record(i);
+        }
+    }
+    found
+}
+
+// The root's spread, by the same pass: rule 10 asks for no number, the desk does.
+pub fn root_spread(policy: &[u8], n: usize, m: usize, inserts: &[u32]) -> u32
+    requires { ⌜ Framed (now policy) n m ⌝ }
+    requires { ⌜ broken4 (now policy) ≡ false ⌝ }
+    requires { ⌜ broken5 (now policy) ≡ false ⌝ }
+    requires { ⌜ broken6 (now policy) ≡ false ⌝ }
+    requires { ⌜ LeafValues insertsIn (now policy) n (now inserts) ⌝ }
+    ensures { λ r. ⌜ r ≡ capped (treeAt (now (policy .entry)) 0) ⌝ }
 {
     let mut caps = [0u32; MOST_NODES];
     let mut i = n;
@@ -72,5 +99,5 @@ pub fn broken10(policy: &[u8], n: usize, m: usize, inserts: &[u32]) -> bool
         i -= 1;
         caps[i] = node_spread(policy, node_place(i), inserts[i], &caps);
     }
-    caps[0] == TOO_WIDE
+    caps[0]
 }

@@ -33,9 +33,12 @@ module _ (code : List Step) (count o t : ℕ) (size : length code ≡ count) whe
   pub target-later : t < count → o < t → true ≡ targetFits code o t
   target-later h l = sym (fits-as true true (lt-ltb t count h) (lt-ltb o t l))
 
+  pub target-earlier : t < count → t ≤ o → isNext (getD code t halt) ≡ targetFits code o t
+  target-earlier h l = sym (fits-as true false (lt-ltb t count h) (le-ltb o t l))
+
   pub target-back : (nexts : ActionSet) → NextsBefore (o + 1) nexts code → t < count → t ≤ o → has nexts t ≡ targetFits code o t
   target-back nexts are h l =
-      are t ∙ ap (λ (b : Bool). b && isNext (getD code t halt)) (lt-ltb t (o + 1) (omega arith)) ∙ sym (fits-as true false (lt-ltb t count h) (le-ltb o t l))
+      are t ∙ ap (λ (b : Bool). b && isNext (getD code t halt)) (lt-ltb t (o + 1) (omega arith)) ∙ target-earlier h l
 
 -- ---- one step
 
@@ -89,7 +92,7 @@ module _ (r : ActionSet) (file : Bytes) (at count : ℕ) where
 
 -- ---- what fits lies inside
 
-every-weaker : {A : Type 0} (f g : A → Bool) → ((x : A) → T (f x) → T (g x)) → (xs : List A) → T (every f xs) → T (every g xs)
+pub every-weaker : {A : Type 0} (f g : A → Bool) → ((x : A) → T (f x) → T (g x)) → (xs : List A) → T (every f xs) → T (every g xs)
 unfolding every
 every-weaker f g h [] t = tt
 every-weaker f g h (x ∷ xs) t = and-intro (g x) (every g xs) (h x (and-left (f x) (every f xs) t)) (every-weaker f g h xs (and-right (f x) (every f xs) t))

@@ -12,9 +12,13 @@ use Rattle.spec_policy.specs.Bytes.{Bytes, spell, put}
 use Rattle.spec_policy.specs.Records.{nodeSize, stepSize}
 use Rattle.spec_policy.specs.Parts.{file}
 use Rattle.spec_policy.proofs.ByteLaws.{put-append}
+use Rattle.spec_policy.specs.Spots as spots
 use Rattle.spec_check.specs.Check.{Answer, passes, refused, check}
 use Rattle.spec_writer.specs.Writing.{holds, written, Result, refusal, laid, after, writes}
 use Rattle.spec_writer.specs.Lent.{lendable, Lent}
+use Rattle.faults.specs.declared.Fault.{Fault}
+use Rattle.faults.specs.Meaning.{faultOf, faultValue}
+use Rattle.faults.proofs.Once.{same-fault}
 use Rattle.file_writer.specs.Replies.{spoken, Gave}
 use Rattle.file_writer.specs.declared.Written.{Written}
 use Rattle.file_writer.specs.declared.Written.the-variants.{Wrote, Refused}
@@ -48,23 +52,28 @@ laid-out nodes steps out {front} {a} {b} {c} {size} e l h f p q r =
 
 -- ---- the answers in their order
 
+-- a refusal that means g is the one that g has
+told : (f : Fault) {g : spots.Fault} → faultOf f ≡ g → Refused f ≡ Refused (faultValue g)
+told f e = ap Refused (sym (same-fault f) ∙ ap faultValue e)
+
 module _ (nodes steps out : Bytes) where
-  pub gave-3 : lendable nodes steps ≡ false → Gave (writes nodes steps out) (Refused 3) out
+  pub gave-3 : lendable nodes steps ≡ false → (f : Fault) → faultOf f ≡ spots.bareFault 3 → Gave (writes nodes steps out) (Refused f) out
   unfolding refusal spoken
-  gave-3 e = subst (λ (x : Result). Gave x (Refused 3) out) (sym (unlent nodes steps out e)) (record { answer = refl; out = refl })
+  gave-3 e f t = subst (λ (x : Result). Gave x (Refused f) out) (sym (unlent nodes steps out e)) (record { answer = told f t; out = refl })
 
   module _ (l : Lent nodes steps) where
     so : {a : Answer} {r : Written} {bytes : Bytes} → check (written nodes steps) ≡ a → Gave (after a (written nodes steps) out) r bytes → Gave (writes nodes steps out) r bytes
     so {a} {r} {bytes} e g =
         subst (λ (x : Result). Gave x r bytes) (sym (by-check nodes steps out l ∙ ap (λ (x : Answer). after x (written nodes steps) out) e)) g
 
-    pub gave-refused : {n k : ℕ} → check (written nodes steps) ≡ refused n → k ≡ n → Gave (writes nodes steps out) (Refused k) out
+    pub gave-refused : {g : spots.Fault} → check (written nodes steps) ≡ refused g → (f : Fault) → faultOf f ≡ g → Gave (writes nodes steps out) (Refused f) out
     unfolding after refusal spoken
-    gave-refused e f = so e (record { answer = ap Refused f; out = refl })
+    gave-refused e f t = so e (record { answer = told f t; out = refl })
 
-    pub gave-15 : {r e : ℕ} → check (written nodes steps) ≡ passes r e → length out < length (written nodes steps) → Gave (writes nodes steps out) (Refused 15) out
+    pub gave-15 : {r e : ℕ} → check (written nodes steps) ≡ passes r e → length out < length (written nodes steps) → (f : Fault) → faultOf f ≡ spots.bareFault 15
+        → Gave (writes nodes steps out) (Refused f) out
     unfolding after laid refusal spoken
-    gave-15 e h = so e (rw (lt-ltb (length out) (length (written nodes steps)) h, laid) (record { answer = refl; out = refl }))
+    gave-15 e h f t = so e (rw (lt-ltb (length out) (length (written nodes steps)) h, laid) (record { answer = told f t; out = refl }))
 
     pub gave-file : {r e n : ℕ} {bytes : Bytes} → check (written nodes steps) ≡ passes r e → length (written nodes steps) ≤ length out → n ≡ length (written nodes steps)
         → bytes ≡ put out 0 (written nodes steps) → Gave (writes nodes steps out) (Wrote n) bytes

@@ -12,7 +12,9 @@ ghost use Rattle.file_writer.specs.Replies.{Gave};
 ghost use Rattle.spec_policy.specs.Records.{mostFile};
 use check_policy::Checked;
 use check_policy::check;
-use check_policy::refusal_number;
+use check_policy::refusal;
+use faults::Fault;
+use faults::bare_fault;
 use file_records::FRONT_SIZE;
 use file_records::MOST_FILE;
 use file_records::MOST_NODES;
@@ -21,10 +23,10 @@ use file_records::NODE_SIZE;
 use file_records::STEP_SIZE;
 use file_records::VERSION;
 
-// The length of the file, or a refusal number.
+// The length of the file, or a refusal. Its record is one of the file that would be written.
 pub enum Written {
     Wrote(u16),
-    Refused(u8),
+    Refused(Fault),
 }
 
 // Whether the buffers hold whole records, and as many as a file may have.
@@ -97,15 +99,15 @@ pub fn write(nodes: &[u8], steps: &[u8], out: &mut [u8]) -> Written
     ensures { λ r. ⌜ Gave (writes (now (nodes .entry)) (now (steps .entry)) (now (out .entry))) r (now (out .exit)) ⌝ }
 {
     if !lendable(nodes, steps) {
-        return Written::Refused(3);
+        return Written::Refused(bare_fault(3));
     }
     let checked = check_laid(nodes, steps);
     let Checked::Passed(_, _) = checked else {
-        return Written::Refused(refusal_number(checked));
+        return Written::Refused(refusal(checked));
     };
     let length = size(nodes, steps);
     if out.len() < length {
-        return Written::Refused(15);
+        return Written::Refused(bare_fault(15));
     }
     lay(nodes, steps, out);
     Written::Wrote(length as u16)

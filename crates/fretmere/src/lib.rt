@@ -5,10 +5,14 @@ ghost use Rattle.spec_turns.specs.Entries.{Reply, opens, offers, closes};
 ghost use Rattle.call_answer.specs.Replies.{spoken};
 ghost use Rattle.spec_writer.specs.Writing as writing;
 ghost use Rattle.file_writer.specs.Replies as replies;
+ghost use Rattle.faults.specs.Meaning.{faultOf};
 ghost use Rattle.fretmere.specs.Words.{Says, refusalWord, Few, word, Gave, countWord, sizeWord, Produced};
 use call_answer::Answer;
 use check_policy::Checked;
 use check_policy::check;
+use faults::Fault;
+use faults::bare_fault;
+use faults::spot_code;
 use file_writer::Written;
 use file_writer::write;
 use guard::close;
@@ -17,9 +21,17 @@ use guard::open;
 use turn_state::STATE_SIZE;
 use turn_state::saved_count;
 
-// Zero, and the two sets written; or the refusal's number, and nothing written.
+// A refusal in one word: its number in the highest byte, and in the rest which record it is about, counted from 1 so that 0 says none.
+fn refused(fault: Fault) -> u32
+    ensures { λ r. ⌜ r ≡ refusalWord (faultOf fault) ⌝ }
+{
+    let spot = fault.spot;
+    fault.number as u32 * 16777216 + spot_code(spot)
+}
+
+// Zero, and the two sets written; or a refusal, and nothing written.
 #[no_mangle]
-pub extern "C" fn fretmere_check(policy: &[u8], regulated: &mut u64, effects: &mut u64) -> u8
+pub extern "C" fn fretmere_check(policy: &[u8], regulated: &mut u64, effects: &mut u64) -> u32
     ensures { λ r. ⌜ Says (check (now (policy .entry))) r (now (regulated .entry)) (now (effects .entry)) (now (regulated .exit)) (now (effects .exit)) ⌝ }
 {
     let checked = check(policy);
@@ -29,15 +41,8 @@ pub extern "C" fn fretmere_check(policy: &[u8], regulated: &mut u64, effects: &m
             *effects = e.bits;
             0
         }
-        Checked::Refused(n) => n,
+        Checked::Refused(fault) => refused(fault),
     }
-}
-
-// A refusal in one word: in its highest byte.
-fn refused(number: u8) -> u32
-    ensures { λ r. ⌜ r ≡ refusalWord number ⌝ }
-{
-    number as u32 * 16777216
 }
 
 // An answer in one word: a refusal, or the status in the byte below the highest and the number of events in the rest.
@@ -47,7 +52,7 @@ fn packed(answer: Answer) -> u32
 {
     match answer {
         Answer::Answered(events, status) => status as u32 * 65536 + events as u32,
-        Answer::Refused(number) => refused(number),
+        Answer::Refused(fault) => refused(fault),
     }
 }
 
@@ -84,7 +89,7 @@ pub extern "C" fn fretmere_running_leaves(state: &[u8]) -> u32
     ensures { λ r. ⌜ r ≡ countWord (now (state .entry)) ⌝ }
 {
     if state.len() != STATE_SIZE {
-        return refused(11);
+        return refused(bare_fault(11));
     }
     saved_count(state) as u32
 }
@@ -95,7 +100,7 @@ fn packed_size(written: Written) -> u32
 {
     match written {
         Written::Wrote(length) => length as u32,
-        Written::Refused(number) => refused(number),
+        Written::Refused(fault) => refused(fault),
     }
 }
 

@@ -9,12 +9,16 @@ use borrow.Author.Tests.{lt-leb, le-leb}
 use Rattle.actions.specs.Sets.{isAction}
 use Rattle.actions.proofs.Tests.{not-not}
 use Rattle.spec_policy.specs.Bytes.{Bytes}
+use Rattle.spec_policy.specs.Spots as spots
 use Rattle.spec_check.specs.Check.{passes, refused, check}
 use Rattle.spec_check.proofs.Passed.{passed}
 use Rattle.spec_turns.specs.Turn.{Request, close}
 use Rattle.spec_turns.specs.Saved.{stateSize, fits}
 use Rattle.spec_turns.specs.Entries.{eventRoom, Result, refusal, carriedOut, broken11, broken12, broken13, Refusal, refusals, unless, entry}
 use Rattle.laws_turns.proofs.Answered.{kept-11}
+use Rattle.faults.specs.declared.Fault.{Fault}
+use Rattle.faults.specs.Meaning.{faultOf, faultValue}
+use Rattle.faults.proofs.Once.{same-fault}
 use Rattle.call_answer.specs.declared.Answer.{Answer}
 use Rattle.call_answer.specs.declared.Answer.the-variants as answers
 use Rattle.call_answer.specs.declared.Call.{Call}
@@ -46,10 +50,14 @@ allowed policy state room x e f g = let k = room-enough state room f in record {
 
 -- ---- in order
 
-pub refused-file : (policy : Bytes) (q : Request) (state room : Bytes) (n : ℕ) {k : ℕ} → check policy ≡ refused n → k ≡ n
-    → Gave (entry policy q state room) (answers.Refused k) state room
+-- a refusal that means g is the one that g has
+told : (f : Fault) {g : spots.Fault} → faultOf f ≡ g → answers.Refused f ≡ answers.Refused (faultValue g)
+told f e = ap answers.Refused (sym (same-fault f) ∙ ap faultValue e)
+
+pub refused-file : (policy : Bytes) (q : Request) (state room : Bytes) {g : spots.Fault} → check policy ≡ refused g → (f : Fault) → faultOf f ≡ g
+    → Gave (entry policy q state room) (answers.Refused f) state room
 unfolding entry refusal spoken
-refused-file policy q state room n e f = rw (e, entry) (record { answer = ap answers.Refused f; state = refl; events = refl })
+refused-file policy q state room e f t = rw (e, entry) (record { answer = told f t; state = refl; events = refl })
 
 -- The file passed, none of the refusals before these applied, and these are left to be tried.
 pub record Left (policy : Bytes) (q : Request) (state room : Bytes) (rs : List Refusal) : Type 0 where
@@ -61,11 +69,11 @@ all-left policy q state room h = record { left = rw (h, entry) }
 
 module _ {policy : Bytes} {q : Request} {state room : Bytes} where
   module _ {r : Refusal} {rs : List Refusal} (l : Left policy q state room (r ∷ rs)) where
-    pub refused-here : r .applies ≡ true → Gave (entry policy q state room) (answers.Refused (r .number)) state room
+    pub refused-here : r .applies ≡ true → (f : Fault) → faultOf f ≡ spots.bareFault (r .number) → Gave (entry policy q state room) (answers.Refused f) state room
     unfolding unless refusal spoken
-    refused-here e =
-        let f : unless (r ∷ rs) policy q state room ≡ refusal (r .number) state room = rw (e, unless) in
-        subst (λ (x : Result). Gave x (answers.Refused (r .number)) state room) (sym (l .left ∙ f)) (record { answer = refl; state = refl; events = refl })
+    refused-here e f t =
+        let g : unless (r ∷ rs) policy q state room ≡ refusal (spots.bareFault (r .number)) state room = rw (e, unless) in
+        subst (λ (x : Result). Gave x (answers.Refused f) state room) (sym (l .left ∙ g)) (record { answer = told f t; state = refl; events = refl })
 
     pub next-left : r .applies ≡ false → Left policy q state room rs
     unfolding unless

@@ -11,7 +11,8 @@ use call_refusals::broken12;
 use call_refusals::broken14;
 use check_policy::Checked;
 use check_policy::check;
-use check_policy::refusal_number;
+use check_policy::refusal;
+use faults::bare_fault;
 
 // Opens the policy: the state buffer need hold nothing beforehand.
 pub fn open(policy: &[u8], state: &mut [u8], events: &mut [u8]) -> Answer
@@ -19,10 +20,10 @@ pub fn open(policy: &[u8], state: &mut [u8], events: &mut [u8]) -> Answer
 {
     let checked = check(policy);
     let Checked::Passed(_, _) = checked else {
-        return Answer::Refused(refusal_number(checked));
+        return Answer::Refused(refusal(checked));
     };
     if broken11(state, events) {
-        return Answer::Refused(11);
+        return Answer::Refused(bare_fault(11));
     }
     carry_out(policy, state, events, Call::Open)
 }
@@ -33,20 +34,20 @@ pub fn offer(policy: &[u8], state: &mut [u8], events: &mut [u8], action: u8) -> 
 {
     let checked = check(policy);
     let Checked::Passed(set, _) = checked else {
-        return Answer::Refused(refusal_number(checked));
+        return Answer::Refused(refusal(checked));
     };
     if broken11(state, events) {
-        return Answer::Refused(11);
+        return Answer::Refused(bare_fault(11));
     }
     if broken12(policy, state) {
-        return Answer::Refused(12);
+        return Answer::Refused(bare_fault(12));
     }
     let halted = broken14(state);
     if action > LAST_ACTION {
-        return Answer::Refused(13);
+        return Answer::Refused(bare_fault(13));
     }
     if halted {
-        return Answer::Refused(14);
+        return Answer::Refused(bare_fault(14));
     }
     carry_action(policy, set, state, events, action)
 }
@@ -57,13 +58,13 @@ pub fn close(policy: &[u8], state: &mut [u8], events: &mut [u8]) -> Answer
 {
     let checked = check(policy);
     let Checked::Passed(_, _) = checked else {
-        return Answer::Refused(refusal_number(checked));
+        return Answer::Refused(refusal(checked));
     };
     if broken11(state, events) {
-        return Answer::Refused(11);
+        return Answer::Refused(bare_fault(11));
     }
     if broken12(policy, state) {
-        return Answer::Refused(12);
+        return Answer::Refused(bare_fault(12));
     }
     carry_out(policy, state, events, Call::Close)
 }

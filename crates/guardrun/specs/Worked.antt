@@ -24,8 +24,8 @@ cases =
     ∷ record { input = alone bottom ++ (1 ∷ []); prints = "open halted\nclose halted\n" }
     -- an ended root still reads on
     ∷ record { input = pair 6 L top ++ (2 ∷ 64 ∷ []); prints = "open right\nacc 2\nrefused 13\nclose right\n" }
-    -- "A refused policy prints only `refused N`"
-    ∷ record { input = pair 4 «V» W ++ (4 ∷ []); prints = "refused 9\n" }
+    -- "A refused policy prints only `refused N`", "guardrun then prints `refused N at P`"
+    ∷ record { input = pair 4 «V» W ++ (4 ∷ []); prints = "refused 9 at 0\n" }
     -- fewer bytes than the first two say, one byte, none
     ∷ record { input = take 81 (alone L); prints = "refused 1\n" }
     ∷ record { input = 0 ∷ []; prints = "refused 1\n" }

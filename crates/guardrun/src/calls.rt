@@ -37,6 +37,6 @@ pub fn tell(
     let answer = ask(policy, state, events, request);
     match answer {
         Answer::Answered(count, s) => answered(text, events, request, count, s),
-        Answer::Refused(n) => refused(text, request, n),
+        Answer::Refused(fault) => refused(text, request, fault),
     }
 }

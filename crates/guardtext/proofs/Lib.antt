@@ -1,1 +1,2 @@
-mod ShownLaws
+pub mod ShownLaws
+pub mod Worked

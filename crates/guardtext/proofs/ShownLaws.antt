@@ -1,45 +1,58 @@
 -- What is printed of a file, as the code finds it.
-use Prim.Native.Nat.{ℕ, _+_, _-_, _*_, _≤_, _<_}
+use Prim.Native.Char.{code}
+use Prim.Native.Nat.{ℕ, _-_, _*_, _≤_, _<_}
 use native.Mathlib.Omega.{arith}
-use mathlib.Core.Path.{_≡_, refl, sym, ap, ap₂, _∙_, subst}
-use lib.ListN.{length, take, drop, length-take}
-use borrow.Author.Tests.{lt-ltb, le-ltb, le-leb}
+use mathlib.Core.Path.{_≡_, refl, sym, ap, ap₂, _∙_}
+use mathlib.Core.Bool.{Bool, true, false}
+use mathlib.Core.List.{[], _∷_, _++_, append-assoc}
+use lib.Dec.{ltb}
+use lib.ListN.{length, take, drop, length-append, length-take}
+use borrow.Author.Tests.{lt-ltb, le-ltb, ltb-false}
 use Rattle.actions.specs.Sets.{ActionSet}
 use Rattle.spec_policy.specs.Bytes.{Bytes, Small}
 use Rattle.spec_policy.specs.Records.{nodeCount, stepCount, nodePlace, stepPlace, nodeBytes, stepBytes}
-use Rattle.spec_check.specs.Check.{Answer, passes, check}
-use Rattle.spec_check.specs.Passed.{Passed}
-use Rattle.spec_check.proofs.Passed.{passed}
-use Rattle.spec_check.proofs.Rows.{counts-fit}
+use Rattle.spec_policy.specs.Lists.{every}
+use Rattle.spec_policy.specs.Spots.{Fault, bareFault}
+use Rattle.spec_policy.proofs.ByteLaws.{small-take, small-drop}
 use Rattle.spec_check.specs.Layout.{CountsFit}
-use Rattle.spec_text.specs.Printing.{Print, text, noText, printed}
-use Rattle.spec_text.proofs.Printable.{read-printed}
+use Rattle.spec_check.specs.Check.{Answer, passes, refused, check}
+use Rattle.spec_check.specs.Passed.{breaks}
+use Rattle.spec_check.proofs.Passed.{passed, refused-number}
+use Rattle.spec_check.proofs.Rows.{counts-fit}
+use Rattle.laws_check.proofs.Inside.{small-fault}
+use Rattle.spec_text.specs.Words.{ascii, newline, space}
+use Rattle.spec_text.specs.Reading.{records, readText}
+use Rattle.spec_text.specs.Printing.{shownRecords}
+use Rattle.spec_text.specs.Where.{faultSays}
+use Rattle.spec_text.specs.Files.{ThereAndBack}
+use Rattle.spec_text.proofs.ShownLaws.{shown-text}
+use Rattle.spec_text.proofs.Printable.{there-and-back, read-printed}
+use Rattle.spec_text.proofs.RemarkLaws.{read-after, fault-in}
+use Rattle.spec_text.proofs.WordLaws.{inLine}
 use Rattle.text_append.specs.Refusal.{refusal}
-use Rattle.text_print.specs.declared.Printed.{Printed}
-use Rattle.text_print.specs.declared.Printed.the-variants.{Text, NoText, Short}
-use Rattle.text_print.specs.Printing.{given, Gave}
-use Rattle.text_print.proofs.PrintLaws.{text-inside}
-use Rattle.text_print.proofs.Lengths.{printed-less}
-use Rattle.guardtext.specs.Shown.{textRoom, answered, shown, Shows}
+use Rattle.text_append.specs.Added.{Added, Tells}
+use Rattle.text_append.proofs.AddedLaws.{named, tells, refusal-short}
+use Rattle.text_spot.proofs.ShortLaws.{fault-short}
+use Rattle.text_print.proofs.Lengths.{records-less}
+use Rattle.guardtext.specs.Shown.{textRoom, recordsText, heading, refusedText, answered, shown, ReadsBack}
 
-pub gave-as : (before : Bytes) {p q : Print} {after : Bytes} {r : Printed} → p ≡ q → Gave (given p before) r after → Gave (given q before) r after
-gave-as before {after = after} {r = r} e g = subst (λ (x : Print). Gave (given x before) r after) e g
+-- ---- files whose counts are to be believed
 
--- a text lies in the buffer
-pub inside : (p : Print) (before : Bytes) {after : Bytes} {r : Printed} {n : ℕ} → Gave (given p before) r after → r ≡ Text n → length after ≡ length before → n ≤ length after
-inside p before {after} {n = n} g e h = subst (λ (k : ℕ). n ≤ k) (sym h) (text-inside p before (subst (λ (y : Printed). Gave (given p before) y after) e g))
+pub pass-fits : {file : Bytes} {r e : ActionSet} → check file ≡ passes r e → CountsFit file
+pass-fits {file} {r} {e} h = counts-fit file (passed file r e h .kept3)
 
--- a file that passes has its front, and its records lie behind it: `at` is where the steps' begin
-module _ (file : Bytes) (ok : Passed file) where
-  counts : CountsFit file
-  counts = counts-fit file (ok .kept3)
+pub refused-fits : {file : Bytes} {f : Fault} → check file ≡ refused f → 4 ≤ f .number → CountsFit file
+unfolding breaks
+refused-fits {file} {f} h l = counts-fit file (refused-number file f h .lower-kept 3 (omega arith))
 
+-- the records lie behind the front: `at` is where the steps' begin
+module _ (file : Bytes) (fit : CountsFit file) where
   pub has-front : 6 ≤ length file
   unfolding stepPlace nodePlace
-  has-front = omega (arith, counts .long)
+  has-front = omega (arith, fit .long)
 
   pub few-nodes : (n : ℕ) → n ≡ nodeCount file → n ≤ 255
-  few-nodes n e = omega (arith, counts .few-nodes)
+  few-nodes n e = omega (arith, fit .few-nodes)
 
   module _ (at : ℕ) (e : at ≡ nodePlace (nodeCount file)) where
     pub after-front : 6 ≤ at
@@ -48,17 +61,34 @@ module _ (file : Bytes) (ok : Passed file) where
 
     pub in-file : at ≤ length file
     unfolding stepPlace nodePlace
-    in-file = omega (arith, e, counts .long)
+    in-file = omega (arith, e, fit .long)
 
-    pub records-are : printed (take (at - 6) (drop 6 file)) (take (length file - at) (drop at file)) ≡ printed (nodeBytes file) (stepBytes file)
-    unfolding nodeBytes stepBytes stepPlace nodePlace
-    records-are =
-        let n : at - 6 ≡ 16 * nodeCount file = omega (arith, e) in
-        let m : length file - at ≡ 12 * stepCount file = omega (arith, e, counts .long) in
-        ap₂ (λ (k l : ℕ). printed (take k (drop 6 file)) (take l (drop at file))) n m
-        ∙ ap (λ (k : ℕ). printed (take (16 * nodeCount file) (drop 6 file)) (take (12 * stepCount file) (drop k file))) e
+    pub nodes-are : take (at - 6) (drop 6 file) ≡ nodeBytes file
+    unfolding nodeBytes nodePlace
+    nodes-are = let n : at - 6 ≡ 16 * nodeCount file = omega (arith, e) in ap (λ (k : ℕ). take k (drop 6 file)) n
 
-pub shown-long : (input : Bytes) → 6646 < length input → text (refusal 1) ≡ shown input
+    pub steps-are : take (length file - at) (drop at file) ≡ stepBytes file
+    unfolding stepBytes stepPlace nodePlace
+    steps-are =
+        let m : length file - at ≡ 12 * stepCount file = omega (arith, e, fit .long) in
+        ap₂ (λ (k l : ℕ). take k (drop l file)) m e
+
+    pub records-are : shownRecords (take (at - 6) (drop 6 file)) (take (length file - at) (drop at file)) ≡ recordsText file
+    unfolding recordsText
+    records-are = ap₂ shownRecords nodes-are steps-are
+
+-- ---- which of the texts
+
+module _ (file : Bytes) (f : Fault) where
+  pub bare-text : f .number < 4 → refusal f ≡ refusedText file f
+  unfolding refusedText
+  bare-text h = rw (refusedText, lt-ltb (f .number) 4 h)
+
+  pub full-text : 4 ≤ f .number → heading (nodeBytes file) f ++ recordsText file ≡ refusedText file f
+  unfolding refusedText
+  full-text h = rw (refusedText, le-ltb (f .number) 4 h)
+
+pub shown-long : (input : Bytes) → 6646 < length input → refusal (bareFault 1) ≡ shown input
 unfolding shown
 shown-long input h = rw (shown, lt-ltb 6646 (length input) h)
 
@@ -68,29 +98,99 @@ shown-short input a h e = rw (shown, le-ltb 6646 (length input) h) (ap (λ (x : 
 
 -- ---- room enough
 
--- a text that fits is not too long
-pub never-short : (p : Print) (before : Bytes) {after : Bytes} {r : Printed} → Gave (given p before) r after → ((t : Bytes) → p ≡ text t → length t ≤ length before) → r ≡ Short → ⊥
-unfolding given
-never-short (text t) before {after} {r} g h e =
-    let f : Short ≡ Text (length t) = rw (given, le-leb (length t) (length before) (h t refl)) at (sym e ∙ g .answer) in
-    let z : _≡_ {A = ℕ} 0 1 = cc in omega arith
-never-short noText before {after} {r} g h e =
-    let f : Short ≡ NoText = sym e ∙ g .answer in
-    let z : _≡_ {A = ℕ} 0 1 = cc in omega arith
+module _ (file : Bytes) (small : Small file) where
+  nodes-small : Small (nodeBytes file)
+  unfolding nodeBytes
+  nodes-small = small-take (16 * nodeCount file) (drop 6 file) (small-drop 6 file small)
 
-pub records-less : (file : Bytes) → Passed file → (t : Bytes) → printed (nodeBytes file) (stepBytes file) ≡ text t → length t ≤ textRoom
-unfolding nodeBytes stepBytes
-records-less file ok t e =
-    let c : CountsFit file = counts-fit file (ok .kept3) in
-    let a : length (nodeBytes file) ≤ 496 = simp length-take (omega (arith, c .few-nodes)) in
-    let b : length (stepBytes file) ≤ 6144 = simp length-take (omega (arith, c .few-steps)) in
-    omega (arith, printed-less (nodeBytes file) (stepBytes file) t (omega arith) (omega arith) e)
+  steps-small : Small (stepBytes file)
+  unfolding stepBytes
+  steps-small = small-take (12 * stepCount file) (drop (nodePlace (nodeCount file)) file) (small-drop (nodePlace (nodeCount file)) file small)
 
--- ---- Every file that passes is shown as a text.
+  module _ (fit : CountsFit file) where
+    nodes-few : length (nodeBytes file) ≤ 496
+    unfolding nodeBytes
+    nodes-few = simp length-take (omega (arith, fit .few-nodes))
 
-pub every-file-shown : (file : Bytes) (r e : ActionSet) → Small file → check file ≡ passes r e → Shows file
-unfolding answered stepPlace nodePlace
+    steps-few : length (stepBytes file) ≤ 6144
+    unfolding stepBytes
+    steps-few = simp length-take (omega (arith, fit .few-steps))
+
+    -- with 700 bytes to spare
+    pub records-short : length (recordsText file) ≤ 130_340
+    unfolding recordsText
+    records-short =
+        let a = nodes-few in
+        let b = steps-few in
+        omega (arith, records-less (nodeBytes file) (stepBytes file) nodes-small steps-small (omega arith) (omega arith))
+
+  module _ (f : Fault) (h : check file ≡ refused f) where
+    heading-short : CountsFit file → length (heading (nodeBytes file) f) ≤ 111
+    unfolding heading ascii
+    heading-short fit =
+        let s = small-fault file f h in
+        let l = nodes-few fit in
+        let a = fault-short (nodeBytes file) (omega arith) f (omega (arith, s .number-small)) (λ p e. omega (arith, s .spot-small p e)) in
+        simp length-append (omega (arith, a))
+
+    refused-less : length (refusedText file f) ≤ textRoom
+    unfolding refusedText
+    refused-less = go (ltb (f .number) 4) refl
+      where
+        go : (b : Bool) → ltb (f .number) 4 ≡ b → length (refusedText file f) ≤ textRoom
+        go true e = let s = small-fault file f h in rw (refusedText, e) (omega (arith, refusal-short f (s .number-small) (s .spot-small)))
+        go false e =
+            let fit : CountsFit file = refused-fits h (ltb-false (f .number) 4 e) in
+            rw (refusedText, e) (simp length-append (omega (arith, heading-short fit, records-short fit)))
+
+  answered-less : (a : Answer) → check file ≡ a → length (answered a file) ≤ textRoom
+  unfolding answered
+  answered-less (passes r e) h = omega (arith, records-short (pass-fits h))
+  answered-less (refused f) h = refused-less f h
+
+  -- Whatever the file, there is room for what is shown of it.
+  pub shown-less : length (shown file) ≤ textRoom
+  unfolding shown
+  shown-less = go (ltb 6646 (length file)) refl
+    where
+      go : (b : Bool) → ltb 6646 (length file) ≡ b → length (shown file) ≤ textRoom
+      go true e = rw (shown, e) (omega (arith, refusal-short (bareFault 1) (omega arith) (λ p w. let z : _≡_ {A = ℕ} 0 1 = cc in absurd (omega arith))))
+      go false e = rw (shown, e) (answered-less (check file) refl)
+
+pub told : (input : Bytes) {before after x : Bytes} {r : ℕ} → Small input → textRoom ≤ length before → Added before 0 x after r → x ≡ shown input → Tells after r (shown input)
+told input small room p e = tells (named p e) (omega (arith, shown-less input small))
+
+-- ---- what is shown is read again
+
+-- of a file that keeps rule 3 there is no byte too many
+short-file : (file : Bytes) → CountsFit file → length file ≤ 6646
+unfolding stepPlace nodePlace
+short-file file c = omega (arith, c .long, c .few-nodes, c .few-steps)
+
+module _ (file : Bytes) (back : ThereAndBack file) where
+  text-is : recordsText file ≡ back .text
+  unfolding recordsText
+  text-is = shown-text (nodeBytes file) (stepBytes file) (back .text) (back .prints)
+
+  -- a remark before it
+  pub headed : (f : Fault) → readText (heading (nodeBytes file) f ++ recordsText file) ≡ records (nodeBytes file) (stepBytes file)
+  unfolding heading ascii every inLine
+  headed f =
+      let w = faultSays (nodeBytes file) f in
+      ap (λ (t : Bytes). readText (heading (nodeBytes file) f ++ t)) text-is
+      ∙ ap (λ (t : Bytes). readText (code "#" ∷ space ∷ t)) (append-assoc w (newline ∷ []) (back .text))
+      ∙ read-after (space ∷ w) (nodeBytes file) (stepBytes file) (back .text) (fault-in (nodeBytes file) f) (back .prints)
+
+pub every-file-shown : (file : Bytes) (r e : ActionSet) → Small file → check file ≡ passes r e → ReadsBack file
+unfolding ReadsBack answered
 every-file-shown file r e small h =
-    let c : CountsFit file = counts-fit file (passed file r e h .kept3) in
     let back = read-printed file r e small h in
-    record { back = back; is = sym (shown-short file (passes r e) (omega (arith, c .long, c .few-nodes, c .few-steps)) (sym h)) ∙ back .prints }
+    ap readText (sym (shown-short file (passes r e) (short-file file (pass-fits h)) (sym h)) ∙ text-is file back) ∙ back .reads
+
+pub refused-file-shown : (file : Bytes) (f : Fault) → Small file → check file ≡ refused f → 7 ≤ f .number → ReadsBack file
+unfolding ReadsBack answered breaks
+refused-file-shown file f small h l =
+    let kept = refused-number file f h .lower-kept in
+    let back = there-and-back file small (kept 3 (omega arith)) (kept 4 (omega arith)) (kept 6 (omega arith)) in
+    let fit : CountsFit file = refused-fits h (omega arith) in
+    ap readText (sym (full-text file f (omega arith) ∙ shown-short file (refused f) (short-file file fit) (sym h))) ∙ headed file back f

@@ -9,9 +9,9 @@ use Rattle.spec_writer.specs.Writing.{holds, written, whole, fromThree, refusal
 use Rattle.text_append.specs.Refusal as spelling
 use Rattle.text_forms.specs.Usage.{usages, usage}
 use Rattle.text_fault.specs.Expected.{heading, lineSays, expected, firstWord, astray, fault, roomAfter, roomBefore, lineNumber, faultIn}
-use Rattle.guardwrite.specs.Said.{filed, answered, tooLong, madeOver, made}
-use Rattle.guardwrite.specs.Worked.{says, cases, AllMade}
+use Rattle.guardwrite.specs.Said.{blamed, filed, answered, tooLong, madeOver, made}
+use Rattle.guardwrite.specs.Worked.{says, second, suppressing, sixInserts, cases, AllMade}
 
 pub all-made : AllMade cases
-unfolding AllMade cases says repeated spelling.refusal filed answered tooLong madeOver made heading lineSays usages usage expected firstWord astray fault roomAfter roomBefore lineNumber faultIn holds written whole fromThree refusal laid after writes texts rules files sets
+unfolding AllMade cases says second suppressing sixInserts repeated spelling.spotWords spelling.refusal blamed filed answered tooLong madeOver made heading lineSays usages usage expected firstWord astray fault roomAfter roomBefore lineNumber faultIn holds written whole fromThree refusal laid after writes texts rules files sets
 all-made = refl

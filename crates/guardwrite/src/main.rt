@@ -1,13 +1,16 @@
-// guardwrite: reads a policy's text on standard input, and prints the policy file, or one line that says what is wrong. Proved is what
-// is printed of the bytes read (`told`): it is what `specs/Said` says. Not proved, for no contract of the kit's can say it: that the bytes
-// which `read` leaves are those that came in, and that those handed to `write` come out. A read that fails counts as the end of the input.
+// guardwrite: reads a policy's text on standard input. It writes the policy file to standard output, or one line that says what is wrong to standard
+// error, and then nothing to standard output. Proved is what is told of the bytes read (`told`): it is what `specs/Said` says. Not proved, for no
+// contract of the kit's can say it: that the bytes which `read` leaves are those that came in, and that those handed to `write` come out. A read that
+// fails counts as the end of the input.
 ghost use mathlib.Core.Path.{_≡_};
 ghost use Prim.Native.Nat.{_+_};
 ghost use lib.ListN.{length};
 ghost use Rattle.guardwrite.specs.Said.{mostText, outRoom};
 use crate::told::MOST_TEXT;
+use crate::told::Told;
 use crate::told::tell;
 use file_records::MOST_FILE;
+use libc::STDERR_FILENO;
 use libc::STDIN_FILENO;
 use libc::STDOUT_FILENO;
 
@@ -31,6 +34,13 @@ fn main() {
     let mut text = text_room();
     let mut out = file_room();
     let end = io::read_full(STDIN_FILENO, &mut text);
-    let said = tell(&text[..end], &mut out);
-    io::write_all(STDOUT_FILENO, &out[..said]);
+    let told = tell(&text[..end], &mut out);
+    match told {
+        Told::File(length) => {
+            io::write_all(STDOUT_FILENO, &out[..length]);
+        }
+        Told::Message(length) => {
+            io::write_all(STDERR_FILENO, &out[..length]);
+        }
+    }
 }

@@ -16,13 +16,13 @@ use Rattle.spec_policy.specs.Lists.{every}
 use Rattle.spec_policy.specs.Steps.{Step, next, ok, sup, ins, acase, spend, end, halt}
 use Rattle.spec_policy.proofs.ListLaws.{every-at}
 use Rattle.spec_check.specs.Targets.{targetsFit}
-use Rattle.spec_check.specs.Modes.{Mode, idle, pending, closing, stands, leads, Reached, first, led, modesFit}
+use Rattle.spec_check.specs.Modes.{Mark, Mode, idle, pending, closing, stands, onward, leads, Reached, first, led, modesFit}
 use Rattle.spec_check.specs.Possible.{CanBe, taken, past-ins, spent, unspent, in-case, off-case, possible, possibleAt}
 use Rattle.spec_check.specs.Interference.{stepEffects, codeEffects, leafEffects}
 use Rattle.spec_check.specs.Lawful.{reachedIn, Sub, Follows, LawfulLeaf}
 use Rattle.spec_check.proofs.InsFits.{insFits}
 use Rattle.spec_check.proofs.Ahead.{in-or-out, out-of, forward, inside}
-use Rattle.laws_check.proofs.Modes.{idle-only, pending-only, modes-real, modes-found}
+use Rattle.laws_check.proofs.Modes.{idle-only, pending-only, leads-onward, modes-real, modes-found}
 use Rattle.laws_check.proofs.Possible.{possible-real, possible-found}
 use Rattle.laws_check.proofs.Rule7.{rule-7}
 use Rattle.laws_check.specs.Rule7.{OneMode}
@@ -45,8 +45,10 @@ module _ (r : ActionSet) (code : List Step) (six : T (targetsFit r code)) (seven
         let u : OneMode code o = rule-7 r code six seven o l in
         subst (λ (x : Step). T (stands x m)) e (subst (λ (x : Mode). T (stands (getD code o halt) x)) (sym (u .only m h)) (u .may-stand))
 
-    reaches : (m′ : Mode) (t : ℕ) → List·Memᴰ (record { mode = m′; offset = t }) (leads k m) → T (reachedIn code m′ t)
-    reaches m′ t d = modes-found r code six m′ t (led h (subst (λ (x : Step). List·Memᴰ (record { mode = m′; offset = t }) (leads x m)) (sym e) d))
+    reaches : (m′ : Mode) (t : ℕ) → List·Memᴰ (record { mode = m′; offset = t }) (onward k m) → T (reachedIn code m′ t)
+    reaches m′ t d =
+        let u : List·Memᴰ (record { mode = m′; offset = t }) (leads k m) = subst (λ (l : List Mark). List·Memᴰ (record { mode = m′; offset = t }) l) (sym (leads-onward k m standing)) d in
+        modes-found r code six m′ t (led h (subst (λ (x : Step). List·Memᴰ (record { mode = m′; offset = t }) (leads x m)) (sym e) u))
 
     effect : Sub (stepEffects (possibleAt r code o) k) (leafEffects r code)
     unfolding leafEffects possibleAt
@@ -60,7 +62,7 @@ module _ (r : ActionSet) (code : List Step) (six : T (targetsFit r code)) (seven
   brings o t a f h = possible-found r code six t a (f (possible-real r code o a h))
 
   follows : (m : Mode) (o : ℕ) → o < length code → Reached code m o → (k : Step) → getD code o halt ≡ k → Follows r code m o k
-  unfolding Follows Sub stands leads stepEffects insFits
+  unfolding Follows Sub stands onward stepEffects insFits
   follows m o l h (next t d) e =
       let s = standing m o l h (next t d) e in
       let u = reaches m o l h (next t d) e in

@@ -3,3 +3,7 @@ pub mod Possible
 pub mod Rule7
 pub mod Leaves
 pub mod LawfulTree
+pub mod LeafSpots
+pub mod Lowest
+pub mod Spots
+pub mod Inside

@@ -10,10 +10,10 @@ use mathlib.Core.List.{List·Memᴰ·eq-of-singleton, Memᴰ·append-left, Mem�
 use lib.Dec.{T, eqb, eqb→eq, eqb-refl}
 use lib.ListN.{length, getD}
 use Rattle.actions.specs.Sets.{ActionSet}
-use Rattle.actions.proofs.Tests.{and-intro, and-left, and-right, or-left, or-right, or-cases, of-yes}
+use Rattle.actions.proofs.Tests.{and-intro, and-left, and-right, or-left, or-right, or-cases, yes-of, of-yes}
 use Rattle.spec_policy.specs.Steps.{Step, next, ok, sup, ins, acase, spend, end, halt, targets, isNext}
 use Rattle.spec_check.specs.Targets.{targetsFit}
-use Rattle.spec_check.specs.Modes.{Mode, idle, pending, closing, isIdle, isPending, isClosing, sameMode, Mark, leads, Reached, first, waits, led}
+use Rattle.spec_check.specs.Modes.{Mode, idle, pending, closing, isIdle, isPending, isClosing, sameMode, stands, Mark, onward, leads, Reached, first, waits, led}
 use Rattle.spec_check.specs.Modes.{marked, reachedBy, leadsIf, stepped, walked, marks}
 use Rattle.spec_check.specs.Lawful.{reachedIn}
 use Rattle.spec_check.proofs.Ahead.{in-or-out, Suffix, whole, suffix-head, suffix-tail, out-of, never-back}
@@ -89,29 +89,48 @@ one-of h = List·Memᴰ·head (ap (λ (x : Mark). x .offset) (List·Memᴰ·eq-o
 two-of : {a b k : Mark} → List·Memᴰ k (a ∷ b ∷ []) → List·Memᴰ (k .offset) (a .offset ∷ b .offset ∷ [])
 two-of {a} {b} {k} h = ⊎-elim (λ (e : k ≡ a). List·Memᴰ·head (ap (λ (x : Mark). x .offset) e)) (λ u. List·Memᴰ·tail (one-of u)) (List·Memᴰ·cases-cons h)
 
+onward-target : (s : Step) (m : Mode) (k : Mark) → List·Memᴰ k (onward s m) → List·Memᴰ (k .offset) (targets s)
+unfolding onward targets
+onward-target (next t d) m k h = two-of h
+onward-target (ok t) m k h = one-of h
+onward-target (sup t) m k h = one-of h
+onward-target (ins b t) m k h = one-of h
+onward-target (acase s y z) m k h = two-of h
+onward-target (spend n y z) m k h = two-of h
+onward-target end m k h = absurd (List·Memᴰ·not-nil h)
+onward-target halt m k h = absurd (List·Memᴰ·not-nil h)
+
+-- where a step may stand it leads on, and elsewhere nowhere
+pub leads-onward : (s : Step) (m : Mode) → T (stands s m) → leads s m ≡ onward s m
+unfolding leads
+leads-onward s m h = rw (yes-of (stands s m) h, leads)
+
+leads-standing : (s : Step) (m : Mode) (k : Mark) → List·Memᴰ k (leads s m) → T (stands s m) × List·Memᴰ k (onward s m)
+unfolding leads
+leads-standing s m k h = go (stands s m) refl
+  where
+    go : (b : Bool) → stands s m ≡ b → T (stands s m) × List·Memᴰ k (onward s m)
+    go true e = (of-yes (stands s m) e, rw (e, leads) at h)
+    go false e = let u : List·Memᴰ k [] = rw (e, leads) at h in absurd (List·Memᴰ·not-nil u)
+
 -- the marks that a step makes are at its targets
 leads-target : (s : Step) (m : Mode) (k : Mark) → List·Memᴰ k (leads s m) → List·Memᴰ (k .offset) (targets s)
-unfolding leads targets
-leads-target (next t d) m k h = two-of h
-leads-target (ok t) m k h = one-of h
-leads-target (sup t) m k h = one-of h
-leads-target (ins b t) m k h = one-of h
-leads-target (acase s y z) m k h = two-of h
-leads-target (spend n y z) m k h = two-of h
-leads-target end m k h = absurd (List·Memᴰ·not-nil h)
-leads-target halt m k h = absurd (List·Memᴰ·not-nil h)
+leads-target s m k h = onward-target s m k (leads-standing s m k h .1)
 
--- a next leads on the same in every mode
-next-leads : (s : Step) (m m′ : Mode) → T (isNext s) → leads s m ≡ leads s m′
-unfolding leads isNext
-next-leads (next t d) m m′ n = refl
-next-leads (ok t) m m′ n = absurd n
-next-leads (sup t) m m′ n = absurd n
-next-leads (ins b t) m m′ n = absurd n
-next-leads (acase s y z) m m′ n = absurd n
-next-leads (spend a y z) m m′ n = absurd n
-next-leads end m m′ n = absurd n
-next-leads halt m m′ n = absurd n
+-- a next leads on from idle alone
+next-stands : (s : Step) (m : Mode) → T (isNext s) → T (stands s m) → idle ≡ m
+unfolding stands isNext
+next-stands (next t d) m n h = idle-only m h
+next-stands (ok t) m n h = absurd n
+next-stands (sup t) m n h = absurd n
+next-stands (ins b t) m n h = absurd n
+next-stands (acase s y z) m n h = absurd n
+next-stands (spend a y z) m n h = absurd n
+next-stands end m n h = absurd n
+next-stands halt m n h = absurd n
+
+next-leads : (s : Step) (m : Mode) (k : Mark) → T (isNext s) → List·Memᴰ k (leads s m) → List·Memᴰ k (leads s idle)
+next-leads s m k n d = subst (λ (x : Mode). List·Memᴰ k (leads s x)) (sym (next-stands s m n (leads-standing s m k d .0))) d
 
 -- what the step at o marks for its being reached in mode m
 abbrev news : ℕ → Step → List Mark → Mode → List Mark
@@ -183,7 +202,7 @@ module _ (r : ActionSet) (code : List Step) (six : T (targetsFit r code)) where
       go : (b : Bool) → isNext s ≡ b → List·Memᴰ k (walked o (s ∷ ss) ks)
       go true n =
           let i : T (isNext s) = of-yes (isNext s) n in
-          on idle (next-reached ks o s i) (subst (λ (l : List Mark). List·Memᴰ k l) (next-leads s m idle i) d)
+          on idle (next-reached ks o s i) (next-leads s m k i d)
       go false n =
           let i : isNext (getD code o halt) ≡ false = sym (ap isNext (suffix-head code o s ss f)) ∙ n in
           ⊎-elim (λ u. on m (mem-reached ks m o s (walked-late o o m (s ∷ ss) ks f (le-refl o) i u)) d) (λ u. absurd (subst T n (u .1)))
@@ -201,7 +220,7 @@ module _ (r : ActionSet) (code : List Step) (six : T (targetsFit r code)) where
   closed o (s ∷ ss) ks f (suc j) p l e m k = closed (suc o) ss (stepped o s ks) (suffix-tail code o s ss f) j p (le-of-suc-le-suc l) (omega arith) m k
 
   marks-closed : (m : Mode) (o : ℕ) (k : Mark) → T (reachedIn code m o) → List·Memᴰ k (leads (getD code o halt) m) → List·Memᴰ k (marks code)
-  unfolding reachedIn marks leads
+  unfolding reachedIn marks leads stands onward
   marks-closed m o k h d =
       ⊎-elim (λ l. closed 0 code (mark idle 0 ∷ []) (whole code) o o l (omega arith) m k h d)
       (λ l. absurd (List·Memᴰ·not-nil (subst (λ (x : Step). List·Memᴰ k (leads x m)) (out-of code o l) d))) (in-or-out (length code) o)

@@ -111,10 +111,11 @@ module _ (r : ActionSet) (code : List Step) (six : T (targetsFit r code)) where
   unfolding modeFits fits count reached-in reachedIn
   test o = refl
 
-  pub rule-7 : T (modesFit code) → (o : ℕ) → o < length code → OneMode code o
-  unfolding modesFit reached-in Sole
-  rule-7 seven o l =
-      let u = fits-sole (reached-in o) (stands (getD code o halt)) (subst T (test o) (everyAt-from-0 (modeFits (marks code)) code halt seven o l)) in
+  -- the test of one step, either way
+  pub one-mode : (o : ℕ) → T (modeFits (marks code) o (getD code o halt)) → OneMode code o
+  unfolding reached-in Sole
+  one-mode o h =
+      let u = fits-sole (reached-in o) (stands (getD code o halt)) (subst T (test o) h) in
       record {
         mode = u .0;
         reached = modes-real code (u .0) o (subst T (sym (u .1 (u .0))) (same-itself (u .0)));
@@ -122,18 +123,25 @@ module _ (r : ActionSet) (code : List Step) (six : T (targetsFit r code)) where
         only = λ m h. same-mode m (u .0) (subst T (u .1 m) (modes-found r code six m o h));
       }
 
-  pub rule-7-back : ((o : ℕ) → o < length code → OneMode code o) → T (modesFit code)
-  unfolding modesFit reached-in Sole
-  rule-7-back all = everyAt-all (modeFits (marks code)) 0 code halt (λ o l.
-      let z : o ≡ 0 + o = omega arith in
-      subst (λ (n : ℕ). T (modeFits (marks code) n (getD code o halt))) z (subst T (sym (test o))
-      (sole-fits (reached-in o) (stands (getD code o halt)) (all o l .mode) (sole o (all o l)) (all o l .may-stand))))
+  pub one-mode-back : (o : ℕ) → OneMode code o → T (modeFits (marks code) o (getD code o halt))
+  unfolding reached-in Sole
+  one-mode-back o u = subst T (sym (test o)) (sole-fits (reached-in o) (stands (getD code o halt)) (u .mode) sole (u .may-stand))
     where
-      sole : (o : ℕ) (u : OneMode code o) → (m : Mode) → reachedIn code m o ≡ sameMode m (u .mode)
-      sole o u m =
+      sole : (m : Mode) → reachedIn code m o ≡ sameMode m (u .mode)
+      sole m =
           both (reachedIn code m o) (sameMode m (u .mode))
           (λ h. subst (λ (x : Mode). T (sameMode m x)) (u .only m (modes-real code m o h)) (same-itself m))
           (λ h. modes-found r code six m o (subst (λ (x : Mode). Reached code x o) (sym (same-mode m (u .mode) h)) (u .reached)))
+
+  pub rule-7 : T (modesFit code) → (o : ℕ) → o < length code → OneMode code o
+  unfolding modesFit
+  rule-7 seven o l = one-mode o (everyAt-from-0 (modeFits (marks code)) code halt seven o l)
+
+  pub rule-7-back : ((o : ℕ) → o < length code → OneMode code o) → T (modesFit code)
+  unfolding modesFit
+  rule-7-back all = everyAt-all (modeFits (marks code)) 0 code halt (λ o l.
+      let z : o ≡ 0 + o = omega arith in
+      subst (λ (n : ℕ). T (modeFits (marks code) n (getD code o halt))) z (one-mode-back o (all o l)))
 
   pub rule-7-exact : T (modesFit code) ↔ ((o : ℕ) → o < length code → OneMode code o)
   rule-7-exact = (rule-7, rule-7-back)

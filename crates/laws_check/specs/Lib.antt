@@ -1,1 +1,2 @@
 pub mod Rule7
+pub mod Offends

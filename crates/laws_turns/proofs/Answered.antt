@@ -1,5 +1,5 @@
 -- The entry points' definition taken apart: an answered call was refused by nothing, and a refused one keeps every byte.
-use Prim.Native.Nat.{ℕ, _≤_}
+use Prim.Native.Nat.{ℕ, _≤_, _<_}
 use native.Mathlib.Omega.{arith}
 use mathlib.Core.Path.{_≡_, refl, sym, ap, _∙_, subst}
 use mathlib.Core.Bool.{Bool, true, false, not}
@@ -9,9 +9,12 @@ use lib.ListN.{length}
 use Rattle.actions.specs.Sets.{ActionSet}
 use Rattle.actions.proofs.Tests.{not-not, or-false-left, or-false-right}
 use Rattle.spec_policy.specs.Bytes.{Bytes}
+use Rattle.spec_policy.specs.Spots.{Fault, bareFault}
 use Rattle.spec_check.specs.Check.{Answer, passes, refused, check}
 use Rattle.spec_check.specs.Passed.{Passed}
 use Rattle.spec_check.proofs.Passed.{passed}
+use Rattle.laws_check.specs.Offends.{SmallFault}
+use Rattle.laws_check.proofs.Inside.{small-fault}
 use Rattle.spec_turns.specs.Status.{Status}
 use Rattle.spec_turns.specs.Turn.{Request, opening, offer, close}
 use Rattle.spec_turns.specs.Saved.{stateSize, fits}
@@ -34,8 +37,8 @@ record Given (rs : List Refusal) (policy : Bytes) (q : Request) (state room : By
 module _ (policy : Bytes) (q : Request) (state room : Bytes) where
   given-one : (r : Refusal) (rs : List Refusal) (b : Bool) → r .applies ≡ b
       → (isAnswer (unless rs policy q state room .reply) → Given rs policy q state room (unless rs policy q state room))
-      → isAnswer ((elim b as (λ _. Result) [ true ↦ refusal (r .number) state room | false ↦ unless rs policy q state room ]) .reply)
-      → Given (r ∷ rs) policy q state room (elim b [ true ↦ refusal (r .number) state room | false ↦ unless rs policy q state room ])
+      → isAnswer ((elim b as (λ _. Result) [ true ↦ refusal (bareFault (r .number)) state room | false ↦ unless rs policy q state room ]) .reply)
+      → Given (r ∷ rs) policy q state room (elim b [ true ↦ refusal (bareFault (r .number)) state room | false ↦ unless rs policy q state room ])
   unfolding isAnswer refusal NoneOf
   given-one r rs true e h a = absurd a
   given-one r rs false e h a = let g = h a in record { none = (e, g .none); given = g .given }
@@ -66,27 +69,66 @@ module _ (policy : Bytes) (q : Request) (state room : Bytes) where
   unfolding entry isAnswer
   answered n s e = answered-by (check policy) refl (subst isAnswer (sym e) tt) refl
 
-  refused-one : (rs : List Refusal) (n : ℕ) → unless rs policy q state room .reply ≡ refuses n → unless rs policy q state room ≡ refusal n state room
+  refused-one : (rs : List Refusal) (n : Fault) → unless rs policy q state room .reply ≡ refuses n → unless rs policy q state room ≡ refusal n state room
   unfolding unless carriedOut refusal
   refused-one [] n e = let z : _≡_ {A = ℕ} 0 1 = cc in absurd (omega arith)
   refused-one (r ∷ rs) n e = go (r .applies) (refused-one rs n) e
     where
       go : (b : Bool) → (unless rs policy q state room .reply ≡ refuses n → unless rs policy q state room ≡ refusal n state room)
-          → (elim b as (λ _. Result) [ true ↦ refusal (r .number) state room | false ↦ unless rs policy q state room ]) .reply ≡ refuses n
-          → (elim b as (λ _. Result) [ true ↦ refusal (r .number) state room | false ↦ unless rs policy q state room ]) ≡ refusal n state room
-      go true h e = let z : r .number ≡ n = cc in ap (λ (k : ℕ). refusal k state room) z
+          → (elim b as (λ _. Result) [ true ↦ refusal (bareFault (r .number)) state room | false ↦ unless rs policy q state room ]) .reply ≡ refuses n
+          → (elim b as (λ _. Result) [ true ↦ refusal (bareFault (r .number)) state room | false ↦ unless rs policy q state room ]) ≡ refusal n state room
+      go true h e = let z : bareFault (r .number) ≡ n = cc in ap (λ (k : Fault). refusal k state room) z
       go false h e = h e
 
   -- "A refusal returns that number ..; state and event buffers keep every byte."
-  pub refused-keeps : (n : ℕ) → entry policy q state room .reply ≡ refuses n → entry policy q state room ≡ refusal n state room
+  pub refused-keeps : (n : Fault) → entry policy q state room .reply ≡ refuses n → entry policy q state room ≡ refusal n state room
   unfolding entry refusal
   refused-keeps n = go (check policy)
     where
       go : (x : Answer)
           → (elim x as (λ _. Result) [ refused k ↦ refusal k state room | passes r e ↦ unless (refusals policy q state room) policy q state room ]) .reply ≡ refuses n
           → (elim x as (λ _. Result) [ refused k ↦ refusal k state room | passes r e ↦ unless (refusals policy q state room) policy q state room ]) ≡ refusal n state room
-      go (refused k) e = let z : k ≡ n = cc in ap (λ (m : ℕ). refusal m state room) z
+      go (refused k) e = let z : k ≡ n = cc in ap (λ (m : Fault). refusal m state room) z
       go (passes r f) e = refused-one (refusals policy q state room) n e
+
+  -- what a refusal tells is short
+  small-bare : (n : ℕ) → n < 100 → SmallFault (bareFault n)
+  small-bare n h = record { number-small = h; spot-small = λ p e. let z : _≡_ {A = ℕ} 0 1 = cc in absurd (omega arith) }
+
+  -- each number of the list has at most two digits
+  unfoldable Few : List Refusal → Type 0
+  Few [] = Unit {0}
+  Few (r ∷ rs) = (r .number < 100) × Few rs
+
+  few-refusals : Few (refusals policy q state room)
+  unfolding refusals Few
+  few-refusals = go q
+    where
+      go : (q : Request) → Few (refusals policy q state room)
+      go opening = (omega arith, tt)
+      go (offer a) = (omega arith, (omega arith, (omega arith, (omega arith, tt))))
+      go close = (omega arith, (omega arith, tt))
+
+  small-one : (rs : List Refusal) → Few rs → (n : Fault) → unless rs policy q state room .reply ≡ refuses n → SmallFault n
+  unfolding unless carriedOut refusal Few
+  small-one [] few n e = let z : _≡_ {A = ℕ} 0 1 = cc in absurd (omega arith)
+  small-one (r ∷ rs) few n e = go (r .applies) (small-one rs (few .1) n) e
+    where
+      go : (b : Bool) → (unless rs policy q state room .reply ≡ refuses n → SmallFault n)
+          → (elim b as (λ _. Result) [ true ↦ refusal (bareFault (r .number)) state room | false ↦ unless rs policy q state room ]) .reply ≡ refuses n
+          → SmallFault n
+      go true h e = let z : bareFault (r .number) ≡ n = cc in subst SmallFault z (small-bare (r .number) (few .0))
+      go false h e = h e
+
+  pub refused-small : (n : Fault) → entry policy q state room .reply ≡ refuses n → SmallFault n
+  unfolding entry refusal
+  refused-small n = go (check policy) refl
+    where
+      go : (x : Answer) → check policy ≡ x
+          → (elim x as (λ _. Result) [ refused k ↦ refusal k state room | passes r e ↦ unless (refusals policy q state room) policy q state room ]) .reply ≡ refuses n
+          → SmallFault n
+      go (refused k) c e = let z : k ≡ n = cc in subst SmallFault z (small-fault policy k c)
+      go (passes r f) c e = small-one (refusals policy q state room) few-refusals n e
 
   -- rule 11 is kept
   pub record Room : Type 0 where

@@ -32,7 +32,7 @@ ending true s = line (ascii "close ") (word s)
 ending false s = []
 
 -- "A refused policy prints only `refused N`; a refused action prints that line and goes on." Closing a state that does not fit would be
--- refused too; each answered call leaves one that fits (`answered-leaves` of crate turns).
+-- refused too; each answered call leaves one that fits (`answered-leaves` of `laws_turns`).
 unfoldable pub lastIfRefused : Request → Bool
 lastIfRefused opening = true
 lastIfRefused (offer a) = false
@@ -40,4 +40,4 @@ lastIfRefused close = true
 
 unfoldable pub said : Request → Reply → Bytes → Said
 said q (answers n s) room = record { text = heading q s ++ (lines n room ++ ending (isLast q s) s); over = isLast q s }
-said q (refuses n) room = record { text = refusal n; over = lastIfRefused q }
+said q (refuses f) room = record { text = refusal f; over = lastIfRefused q }

@@ -7,11 +7,14 @@ ghost use Rattle.spec_turns.specs.Status.{statusOf};
 ghost use Rattle.spec_turns.specs.Entries.{answers, refuses};
 ghost use Rattle.spec_text.specs.Numerals.{decimal};
 ghost use Rattle.text_append.specs.Added.{Added};
+ghost use Rattle.text_append.specs.Refusal.{refusal};
 ghost use Rattle.call_answer.specs.Requests.{asked};
+ghost use Rattle.faults.specs.Meaning.{faultOf};
 ghost use Rattle.run_report.specs.Lines.{line, word, kind, lines};
 ghost use Rattle.run_report.specs.Said.{heading, ending, isLast, lastIfRefused, said};
-ghost use Rattle.run_report.specs.Speaks.{Speaks};
+ghost use Rattle.run_report.specs.Speaks.{textRoom, Speaks};
 use call_answer::Call;
+use faults::Fault;
 use text_append::append;
 use text_append::append_number;
 use text_append::refuse;
@@ -146,11 +149,13 @@ pub fn answered(out: &mut [u8], events: &[u8], request: Call, count: usize, s: u
     }
 }
 
-pub fn refused(out: &mut [u8], request: Call, n: u8) -> Told
-    ensures { λ r. ⌜ ((room : Bytes) → Speaks (said (asked request) (refuses n) room) (now (out .entry)) (now (out .exit)) r) ⌝ }
+// How long the text is, the caller knows: a refusal's number and its record's are small.
+pub fn refused(out: &mut [u8], request: Call, fault: Fault) -> Told
+    ensures { λ r. ⌜ ((room : Bytes) → length (refusal (faultOf fault)) ≤ textRoom
+        → Speaks (said (asked request) (refuses (faultOf fault)) room) (now (out .entry)) (now (out .exit)) r) ⌝ }
 {
     Told {
-        end: refuse(out, 0, n),
+        end: refuse(out, 0, fault),
         over: last_if_refused(request),
     }
 }

@@ -3,7 +3,7 @@ use Prim.Native.Nat.{ℕ, zero, suc, _+_, _≤_, _<_}
 use native.Mathlib.Omega.{arith}
 use mathlib.Core.Path.{_≡_, refl, sym, _∙_, ap, subst}
 use mathlib.Core.Logic.{_⊎_, inl, inr, ⊎-elim}
-use mathlib.Core.Bool.{Bool, true, false, _&&_, _||_, not}
+use mathlib.Core.Bool.{Bool, true, false, _||_, not}
 use mathlib.Core.List.{List, [], _∷_, List·Memᴰ, List·Memᴰ·head, List·Memᴰ·tail, List·Memᴰ·not-nil, List·Memᴰ·cases-cons}
 use lib.Dec.{T, ltb, ltb→lt, nltb→le}
 use lib.ListN.{length, getD, List·getD-eq-default}
@@ -12,7 +12,7 @@ use Rattle.actions.proofs.Tests.{and-left, and-right, or-cases}
 use Rattle.spec_policy.specs.Lists.{every}
 use Rattle.spec_policy.specs.Steps.{Step, halt, targets, isNext}
 use Rattle.spec_policy.proofs.ListLaws.{everyAt-from-0}
-use Rattle.spec_check.specs.Targets.{targetFits, asksWithin, targetsFit}
+use Rattle.spec_check.specs.Targets.{targetFits, asksWithin, leadsWell, targetsFit}
 use Rattle.spec_check.specs.Lawful.{Ahead, AllAhead, Inside, Forward}
 
 -- ---- lists
@@ -66,10 +66,10 @@ all-inside n (t ∷ ts) f = (f t (List·Memᴰ·head refl), all-inside n ts (λ 
 
 module _ (r : ActionSet) (code : List Step) (six : T (targetsFit r code)) where
   all-fit : (o : ℕ) → T (every (targetFits code o) (targets (getD code o halt)))
-  unfolding targetsFit targets every
+  unfolding targetsFit leadsWell targets every
   all-fit o =
       ⊎-elim (λ l. and-right (asksWithin r (getD code o halt)) (every (targetFits code o) (targets (getD code o halt)))
-      (everyAt-from-0 (λ o k. asksWithin r k && every (targetFits code o) (targets k)) code halt six o l))
+      (everyAt-from-0 (leadsWell r code) code halt six o l))
       (λ l. subst (λ (k : Step). T (every (targetFits code o) (targets k))) (sym (out-of code o l)) tt) (in-or-out (length code) o)
 
   fits : (o t : ℕ) → List·Memᴰ t (targets (getD code o halt)) → T (targetFits code o t)

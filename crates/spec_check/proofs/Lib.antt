@@ -1,4 +1,5 @@
 pub mod Ahead
+pub mod Kept
 pub mod InsFits
 pub mod Under
 pub mod Numbers

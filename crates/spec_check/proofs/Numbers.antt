@@ -19,6 +19,7 @@ use Rattle.spec_policy.specs.Steps.{Step, stepOf}
 use Rattle.spec_policy.specs.Tree.{Way, Join, NodeKind, aLeaf, aTrivial, anUnsatisfiable, aPair, noNode, nodeKind, stepsOwned, noNodeSteps, withSteps, nodesWithSteps, Tree, leaf, trivial, unsatisfiable, node, treeUnder, treeAt, tree, numberOf}
 use Rattle.spec_check.specs.Children.{later, children, oneParent, broken5}
 use Rattle.spec_check.specs.Lawful.{holds, Disjoint, Numbered}
+use Rattle.spec_check.proofs.Kept.{broken5-is}
 use Rattle.spec_check.proofs.Under.{shaped-same, under-suc, under-is}
 use Rattle.spec_check.specs.Numbers.{nodeStepsIn, nodeIn, kindIn, shaped, Distinct}
 
@@ -188,16 +189,14 @@ later-pair n i x w j e h =
 
 module _ (file : Bytes) (five : broken5 file ≡ false) where
   all-later : T (everyAt (later (nodeCount file)) 0 (nodes file))
-  unfolding broken5
   all-later =
       not-not (everyAt (later (nodeCount file)) 0 (nodes file))
-      (or-false-left (not (everyAt (later (nodeCount file)) 0 (nodes file))) (not (everyAt (λ i x. oneParent (nodes file) i) 0 (nodes file))) five)
+      (or-false-left (not (everyAt (later (nodeCount file)) 0 (nodes file))) (not (everyAt (λ i x. oneParent (nodes file) i) 0 (nodes file))) (sym (broken5-is file) ∙ five))
 
   all-once : T (everyAt (λ i x. oneParent (nodes file) i) 0 (nodes file))
-  unfolding broken5
   all-once =
       not-not (everyAt (λ i x. oneParent (nodes file) i) 0 (nodes file))
-      (or-false-right (not (everyAt (later (nodeCount file)) 0 (nodes file))) (not (everyAt (λ i x. oneParent (nodes file) i) 0 (nodes file))) five)
+      (or-false-right (not (everyAt (later (nodeCount file)) 0 (nodes file))) (not (everyAt (λ i x. oneParent (nodes file) i) 0 (nodes file))) (sym (broken5-is file) ∙ five))
 
   nodes-later : (p : ℕ) (w : Way) (j : Join) → nodeKind (getD (nodes file) p noN .kind) ≡ aPair w j → ChildrenLater (nodeCount file) p (getD (nodes file) p noN)
   nodes-later p w j e =
@@ -205,7 +204,7 @@ module _ (file : Bytes) (five : broken5 file ≡ false) where
       (everyAt-from-0 (later (nodeCount file)) (nodes file) noN all-later p (node-inside (nodes file) p (λ n. let z : _≡_ {A = ℕ} 0 1 = cc in omega arith)))
 
   -- "A child's number is greater than its parent's and less than n"
-  children-later : (i : ℕ) (w : Way) (j : Join) → kindIn (nodesWithSteps file) i ≡ aPair w j → ChildrenLater (nodeCount file) i (nodeIn (nodesWithSteps file) i)
+  pub children-later : (i : ℕ) (w : Way) (j : Join) → kindIn (nodesWithSteps file) i ≡ aPair w j → ChildrenLater (nodeCount file) i (nodeIn (nodesWithSteps file) i)
   children-later i w j e =
       subst (λ (x : Node). ChildrenLater (nodeCount file) i x) (sym (same-node file i))
       (nodes-later i w j (subst (λ (x : Node). nodeKind (x .kind) ≡ aPair w j) (same-node file i) e))

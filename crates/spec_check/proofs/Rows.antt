@@ -3,7 +3,7 @@
 --
 use Prim.Native.Nat.{ℕ, zero, suc, _*_, _≤_}
 use native.Mathlib.Omega.{arith}
-use mathlib.Core.Path.{_≡_, refl, _∙_, ap, subst}
+use mathlib.Core.Path.{_≡_, refl, sym, _∙_, ap, subst}
 use mathlib.Core.Bool.{Bool, false, _&&_, not}
 use mathlib.Core.List.{List, [], _∷_, map}
 use lib.Dec.{T, eqb, leb, eqb→eq, leb→le}
@@ -21,6 +21,7 @@ use Rattle.spec_policy.proofs.NodeLaws.{noN}
 use Rattle.spec_check.specs.Layout.{nodeFits, noSecond, noOperand, stepFits, broken3, broken4, CountsFit}
 use Rattle.spec_check.specs.Leaves.{everyLeaf}
 use Rattle.spec_check.specs.Targets.{targetsFit, broken6}
+use Rattle.spec_check.proofs.Kept.{broken4-is, broken6-is}
 use Rattle.spec_check.proofs.InsFits.{insFits}
 use Rattle.spec_check.specs.Numbers.{nodeStepsIn, nodeIn, kindIn}
 use Rattle.spec_check.proofs.Numbers.{same-node, node-inside}
@@ -116,16 +117,14 @@ row-ins (suc (suc (suc (suc (suc (suc (suc (suc (suc k))))))))) a f s o h = tt
 
 module _ (file : Bytes) (four : broken4 file ≡ false) where
   pub nodes-fit : T (every (λ x. nodeFits (nodeKind (x .kind)) x) (nodes file))
-  unfolding broken4
   nodes-fit =
       not-not (every (λ x. nodeFits (nodeKind (x .kind)) x) (nodes file))
-      (or-false-left (not (every (λ x. nodeFits (nodeKind (x .kind)) x) (nodes file))) (not (every stepFits (stepRecords file))) four)
+      (or-false-left (not (every (λ x. nodeFits (nodeKind (x .kind)) x) (nodes file))) (not (every stepFits (stepRecords file))) (sym (broken4-is file) ∙ four))
 
   pub steps-fit : T (every stepFits (stepRecords file))
-  unfolding broken4
   steps-fit =
       not-not (every stepFits (stepRecords file))
-      (or-false-right (not (every (λ x. nodeFits (nodeKind (x .kind)) x) (nodes file))) (not (every stepFits (stepRecords file))) four)
+      (or-false-right (not (every (λ x. nodeFits (nodeKind (x .kind)) x) (nodes file))) (not (every stepFits (stepRecords file))) (sym (broken4-is file) ∙ four))
 
   -- "An action is at most 63": of every ins of every leaf
   pub ins-fit : T (everyLeaf (λ r code. every insFits code) (nodesWithSteps file))
@@ -163,10 +162,9 @@ leaf-fits x h =
     )
 
 pub all-owned : (file : Bytes) → broken6 file ≡ false → summed (map stepsOwned (nodes file)) ≡ stepCount file
-unfolding broken6
 all-owned file six =
     eqb→eq (summed (map stepsOwned (nodes file))) (stepCount file) (not-not (eqb (summed (map stepsOwned (nodes file))) (stepCount file))
-    (or-false-left (not (eqb (summed (map stepsOwned (nodes file))) (stepCount file))) (not (everyLeaf targetsFit (nodesWithSteps file))) six))
+    (or-false-left (not (eqb (summed (map stepsOwned (nodes file))) (stepCount file))) (not (everyLeaf targetsFit (nodesWithSteps file))) (sym (broken6-is file) ∙ six)))
 
 module _ (file : Bytes) (four : broken4 file ≡ false) (six : broken6 file ≡ false) where
   steps-length : length (map stepOf (stepRecords file)) ≡ stepCount file

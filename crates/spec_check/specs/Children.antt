@@ -1,11 +1,12 @@
 -- Rule 5: the tree rule.
 use Prim.Native.Nat.{ℕ}
-use mathlib.Core.Bool.{Bool, true, _&&_, _||_, not}
+use mathlib.Core.Bool.{Bool, true, _&&_, _||_}
 use mathlib.Core.List.{List, [], _∷_}
 use lib.Dec.{eqb, ltb}
 use Rattle.spec_policy.specs.Bytes.{Bytes}
-use Rattle.spec_policy.specs.Lists.{occurs, everyAt}
+use Rattle.spec_policy.specs.Lists.{occurs}
 use Rattle.spec_policy.specs.Records.{Node, nodeCount, nodes}
+use Rattle.spec_policy.specs.Spots.{Spot, somewhere, firstOff}
 use Rattle.spec_policy.specs.Tree.{aLeaf, aTrivial, anUnsatisfiable, aPair, noNode, nodeKind}
 
 -- "A child's number is greater than its parent's and less than n".
@@ -32,6 +33,10 @@ children (x ∷ xs) = elim (nodeKind (x .kind)) [
 unfoldable pub oneParent : List Node → ℕ → Bool
 oneParent xs i = eqb i 0 || eqb (occurs i (children xs)) 1
 
--- 5: "the tree rule is broken"
+-- 5: "the tree rule is broken". Where: "it is the lowest node that has a bad child or, 0 apart, isn't a child exactly once", in one scan. Each time that
+-- a node is named as a child counts, whether it may be named there or not.
+unfoldable pub wrong5 : Bytes → Spot
+wrong5 file = firstOff (λ i x. later (nodeCount file) i x && oneParent (nodes file) i) 0 (nodes file)
+
 unfoldable pub broken5 : Bytes → Bool
-broken5 file = not (everyAt (later (nodeCount file)) 0 (nodes file)) || not (everyAt (λ i x. oneParent (nodes file) i) 0 (nodes file))
+broken5 file = somewhere (wrong5 file)

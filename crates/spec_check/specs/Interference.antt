@@ -1,12 +1,14 @@
 -- Effect sets, and rule 9.
 use Prim.Native.Nat.{ℕ, suc}
-use mathlib.Core.Bool.{Bool, true, _&&_, _||_, not}
+use mathlib.Core.Bool.{Bool, false, _||_, not}
 use mathlib.Core.List.{List, [], _∷_}
 use lib.ListN.{getD}
 use Rattle.actions.specs.Sets.{ActionSet, EMPTY, single, union, meets}
 use Rattle.spec_policy.specs.Bytes.{Bytes}
+use Rattle.spec_policy.specs.Records.{nodes}
+use Rattle.spec_policy.specs.Spots.{Spot, somewhere, firstOff}
 use Rattle.spec_policy.specs.Steps.{Step, next, ok, sup, ins, acase, spend, end, halt}
-use Rattle.spec_policy.specs.Tree.{parallel, sequential, Tree, leaf, trivial, unsatisfiable, node, regulated, tree}
+use Rattle.spec_policy.specs.Tree.{parallel, sequential, Tree, leaf, trivial, unsatisfiable, node, regulated, treeAt}
 use Rattle.spec_check.specs.Possible.{possible}
 
 -- "A leaf's effect set is all actions it inserts and, for each sup, its possible actions."
@@ -38,14 +40,17 @@ effects (node w j i l r) = union (effects l) (effects r)
 unfoldable pub interfere : Tree → Tree → Bool
 interfere l r = meets (effects l) (regulated r) || meets (effects r) (regulated l)
 
--- no two parallel sides interfere, anywhere in the tree
-unfoldable pub apart : Tree → Bool
-apart (leaf i r c code) = true
-apart (trivial i) = true
-apart (unsatisfiable i) = true
-apart (node parallel j i l r) = not (interfere l r) && apart l && apart r
-apart (node sequential j i l r) = apart l && apart r
+-- the tree is of kind 4 or 6, and its two sides interfere
+unfoldable pub crossed : Tree → Bool
+crossed (leaf i r c code) = false
+crossed (trivial i) = false
+crossed (unsatisfiable i) = false
+crossed (node parallel j i l r) = interfere l r
+crossed (node sequential j i l r) = false
 
--- 9: "two parallel sides interfere"
+-- 9: "two parallel sides interfere". Where: "For 9 and 10 it is the node."
+unfoldable pub wrong9 : Bytes → Spot
+wrong9 file = firstOff (λ i x. not (crossed (treeAt file i))) 0 (nodes file)
+
 unfoldable pub broken9 : Bytes → Bool
-broken9 file = not (apart (tree file))
+broken9 file = somewhere (wrong9 file)

@@ -7,8 +7,8 @@ use lib.Dec.{eqb, leb, ltb}
 use lib.ListN.{length, getD}
 use Rattle.actions.specs.Sets.{isAction, isEmpty}
 use Rattle.spec_policy.specs.Bytes.{Bytes}
-use Rattle.spec_policy.specs.Lists.{every}
 use Rattle.spec_policy.specs.Records.{frontSize, mostNodes, mostSteps, mostLeafSteps, lengthField, versionField, nodeCount, stepCount, Node, StepRecord, stepPlace, nodes, stepRecords}
+use Rattle.spec_policy.specs.Spots.{Spot, somewhere, orElse, firstOff}
 use Rattle.spec_policy.specs.Tree.{NodeKind, aLeaf, aTrivial, anUnsatisfiable, aPair, noNode, nodeKind}
 
 -- 1: "fewer than 6 bytes, or the length field differs from the bytes given"
@@ -74,6 +74,10 @@ stepFits r =
     ∷ (noAction r && noFirst r && noSecond r && noOperand r)
     ∷ []) (r .kind) false
 
--- 4: "a field of a node or step breaks the layout above (child numbers apart)"
+-- 4: "a field of a node or step breaks the layout above (child numbers apart)". Where: "for 4, nodes come before steps, and step i counts as n + i."
+unfoldable pub wrong4 : Bytes → Spot
+wrong4 file = orElse (firstOff (λ i x. nodeFits (nodeKind (x .kind)) x) 0 (nodes file)) (firstOff (λ i r. stepFits r) (nodeCount file) (stepRecords file))
+
+-- A rule from 4 on is broken where a record breaks it.
 unfoldable pub broken4 : Bytes → Bool
-broken4 file = not (every (λ x. nodeFits (nodeKind (x .kind)) x) (nodes file)) || not (every stepFits (stepRecords file))
+broken4 file = somewhere (wrong4 file)

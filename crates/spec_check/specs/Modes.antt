@@ -6,9 +6,10 @@ use lib.Dec.{T, eqb}
 use lib.ListN.{getD}
 use Rattle.spec_policy.specs.Bytes.{Bytes}
 use Rattle.spec_policy.specs.Lists.{one, everyAt}
+use Rattle.spec_policy.specs.Spots.{Spot, somewhere, firstOff}
 use Rattle.spec_policy.specs.Steps.{Step, next, ok, sup, ins, acase, spend, end, halt, isNext}
 use Rattle.spec_policy.specs.Tree.{nodesWithSteps}
-use Rattle.spec_check.specs.Leaves.{everyLeaf}
+use Rattle.spec_check.specs.Leaves.{firstInLeaves}
 
 -- "Three modes: idle, pending, closing."
 pub data Mode : Type 0 where
@@ -51,19 +52,24 @@ pub record Mark : Type 0 where
   pub mode : Mode
   pub offset : ℕ
 
--- The table, its second half: what a step reached in mode m reaches. "A next reaches its take target pending, its done target
+-- The table, its second half: what a step that may stand in mode m reaches from there. "A next reaches its take target pending, its done target
 -- closing. Ok and sup .. lead to idle. Acase .. keeps it. Ins and spend .. keep it."
-unfoldable pub leads : Step → Mode → List Mark
-leads (next t d) m = record { mode = pending; offset = t } ∷ record { mode = closing; offset = d } ∷ []
-leads (ok t) m = record { mode = idle; offset = t } ∷ []
-leads (sup t) m = record { mode = idle; offset = t } ∷ []
-leads (ins b t) m = record { mode = m; offset = t } ∷ []
-leads (acase s y z) m = record { mode = m; offset = y } ∷ record { mode = m; offset = z } ∷ []
-leads (spend n y z) m = record { mode = m; offset = y } ∷ record { mode = m; offset = z } ∷ []
-leads end m = []
-leads halt m = []
+unfoldable pub onward : Step → Mode → List Mark
+onward (next t d) m = record { mode = pending; offset = t } ∷ record { mode = closing; offset = d } ∷ []
+onward (ok t) m = record { mode = idle; offset = t } ∷ []
+onward (sup t) m = record { mode = idle; offset = t } ∷ []
+onward (ins b t) m = record { mode = m; offset = t } ∷ []
+onward (acase s y z) m = record { mode = m; offset = y } ∷ record { mode = m; offset = z } ∷ []
+onward (spend n y z) m = record { mode = m; offset = y } ∷ record { mode = m; offset = z } ∷ []
+onward end m = []
+onward halt m = []
 
--- What the paper says, as it says it: an offset is reached in a mode by a chain of steps. `lawful/proofs/Modes` shows that the walk below
+-- "Ok and sup stand only in pending mode and lead to idle. Acase stands only in pending mode and keeps it.": from a mode in which its kind may not stand a
+-- step leads nowhere.
+unfoldable pub leads : Step → Mode → List Mark
+leads s m = elim (stands s m) [ true ↦ onward s m | false ↦ [] ]
+
+-- What the paper says, as it says it: an offset is reached in a mode by a chain of steps. `laws_check/proofs/Modes` shows that the walk below
 -- finds just these.
 pub data Reached (code : List Step) : Mode → ℕ → Type 0 where
   -- "Offset 0 is reached idle;"
@@ -110,6 +116,9 @@ modeFits ks o s =
 unfoldable pub modesFit : List Step → Bool
 modesFit code = everyAt (modeFits (marks code)) 0 code
 
--- 7: "the mode rule is broken"
+-- 7: "the mode rule is broken". Where: the step. All modes are known before the first step is tested, since a later step may lead back to it.
+unfoldable pub wrong7 : Bytes → Spot
+wrong7 file = firstInLeaves (λ r code. firstOff (modeFits (marks code)) 0 code) 0 (nodesWithSteps file)
+
 unfoldable pub broken7 : Bytes → Bool
-broken7 file = not (everyLeaf (λ r code. modesFit code) (nodesWithSteps file))
+broken7 file = somewhere (wrong7 file)

@@ -8,11 +8,12 @@ use lib.ListN.{length, getD, set, replicate}
 use Rattle.actions.specs.Sets.{Action, ActionSet, EMPTY, union, common, difference, has, isEmpty}
 use Rattle.spec_policy.specs.Bytes.{Bytes}
 use Rattle.spec_policy.specs.Lists.{everyAt}
+use Rattle.spec_policy.specs.Spots.{Spot, somewhere, firstOff}
 use Rattle.spec_policy.specs.Steps.{Step, next, ok, sup, ins, acase, spend, end, halt}
 use Rattle.spec_policy.specs.Tree.{nodesWithSteps}
-use Rattle.spec_check.specs.Leaves.{everyLeaf}
+use Rattle.spec_check.specs.Leaves.{firstInLeaves}
 
--- What the paper says, as it says it: an action is possible at an offset by a chain of steps from a take target. `lawful/proofs/Possible`
+-- What the paper says, as it says it: an action is possible at an offset by a chain of steps from a take target. `laws_check/proofs/Possible`
 -- shows that the walk below finds just these.
 pub data CanBe (r : ActionSet) (code : List Step) : ℕ → Action → Type 0 where
   -- "At a take target: the leaf's set."
@@ -67,6 +68,9 @@ branchesTaken ps o halt = true
 unfoldable pub allTaken : ActionSet → List Step → Bool
 allTaken r code = everyAt (branchesTaken (possible r code)) 0 code
 
--- 8: "an acase has a branch that no possible action takes"
+-- 8: "an acase has a branch that no possible action takes". Where: the acase.
+unfoldable pub wrong8 : Bytes → Spot
+wrong8 file = firstInLeaves (λ r code. firstOff (branchesTaken (possible r code)) 0 code) 0 (nodesWithSteps file)
+
 unfoldable pub broken8 : Bytes → Bool
-broken8 file = not (everyLeaf allTaken (nodesWithSteps file))
+broken8 file = somewhere (wrong8 file)

@@ -1,12 +1,14 @@
 -- Spread, and rule 10.
 use Prim.Native.Nat.{ℕ, _+_, _*_, _-_}
-use mathlib.Core.Bool.{Bool, _&&_, not}
+use mathlib.Core.Bool.{Bool}
 use mathlib.Core.List.{List, [], _∷_}
 use lib.Dec.{leb}
 use Rattle.spec_policy.specs.Bytes.{Bytes}
 use Rattle.spec_policy.specs.Lists.{one}
+use Rattle.spec_policy.specs.Records.{nodes}
+use Rattle.spec_policy.specs.Spots.{Spot, somewhere, firstOff}
 use Rattle.spec_policy.specs.Steps.{Step, isIns}
-use Rattle.spec_policy.specs.Tree.{Way, parallel, sequential, Tree, leaf, trivial, unsatisfiable, node, tree}
+use Rattle.spec_policy.specs.Tree.{Way, parallel, sequential, Tree, leaf, trivial, unsatisfiable, node, treeAt}
 
 -- the number of ins steps
 unfoldable pub insCount : List Step → ℕ
@@ -25,13 +27,9 @@ spread (trivial i) = 0
 spread (unsatisfiable i) = 0
 spread (node w j i l r) = spreadOf w (spread l) (spread r)
 
--- no node's spread is above 255
-unfoldable pub narrow : Tree → Bool
-narrow (leaf i r c code) = leb (spread (leaf i r c code)) 255
-narrow (trivial i) = leb (spread (trivial i)) 255
-narrow (unsatisfiable i) = leb (spread (unsatisfiable i)) 255
-narrow (node w j i l r) = narrow l && narrow r && leb (spread (node w j i l r)) 255
+-- 10: "a node's spread is above 255". Where: "For 9 and 10 it is the node.", always the root, for no node's spread is above its parent's.
+unfoldable pub wrong10 : Bytes → Spot
+wrong10 file = firstOff (λ i x. leb (spread (treeAt file i)) 255) 0 (nodes file)
 
--- 10: "a node's spread is above 255"
 unfoldable pub broken10 : Bytes → Bool
-broken10 file = not (narrow (tree file))
+broken10 file = somewhere (wrong10 file)

@@ -1,6 +1,6 @@
 -- Rule 6: where the steps lead.
 use Prim.Native.Nat.{ℕ}
-use mathlib.Core.Bool.{Bool, true, _&&_, _||_, not}
+use mathlib.Core.Bool.{Bool, true, false, _&&_, _||_}
 use mathlib.Core.List.{List, map}
 use lib.Dec.{eqb, ltb}
 use lib.ListN.{length, getD}
@@ -8,9 +8,10 @@ use Rattle.actions.specs.Sets.{ActionSet, within}
 use Rattle.spec_policy.specs.Bytes.{Bytes}
 use Rattle.spec_policy.specs.Lists.{summed, every, everyAt}
 use Rattle.spec_policy.specs.Records.{stepCount, nodes}
+use Rattle.spec_policy.specs.Spots.{Spot, onRecord, somewhere, firstOff}
 use Rattle.spec_policy.specs.Steps.{Step, next, ok, sup, ins, acase, spend, end, halt, targets, isNext}
 use Rattle.spec_policy.specs.Tree.{stepsOwned, nodesWithSteps}
-use Rattle.spec_check.specs.Leaves.{everyLeaf}
+use Rattle.spec_check.specs.Leaves.{firstInLeaves}
 
 -- "a target is outside its leaf; or a target is not later than its own step and is no next": not so, of target t of the step at o
 unfoldable pub targetFits : List Step → ℕ → ℕ → Bool
@@ -27,10 +28,20 @@ asksWithin r (spend m y z) = true
 asksWithin r end = true
 asksWithin r halt = true
 
-unfoldable pub targetsFit : ActionSet → List Step → Bool
-unfolding targetFits
-targetsFit r code = everyAt (λ o k. asksWithin r k && every (targetFits code o) (targets k)) 0 code
+-- all of this, of the step k at o
+unfoldable pub leadsWell : ActionSet → List Step → ℕ → Step → Bool
+leadsWell r code o k = asksWithin r k && every (targetFits code o) (targets k)
 
--- 6: "leaf step counts don't sum to m; or .."
+unfoldable pub targetsFit : ActionSet → List Step → Bool
+unfolding targetFits leadsWell
+targetsFit r code = everyAt (leadsWell r code) 0 code
+
+-- 6: "leaf step counts don't sum to m; or ..". Where: the step, counted over the whole file; "for 6 with a wrong sum it is 0", whatever else is wrong.
+unfoldable pub wrong6 : Bytes → Spot
+wrong6 file = elim (eqb (summed (map stepsOwned (nodes file))) (stepCount file)) [
+  | true ↦ firstInLeaves (λ r code. firstOff (leadsWell r code) 0 code) 0 (nodesWithSteps file)
+  | false ↦ onRecord 0
+]
+
 unfoldable pub broken6 : Bytes → Bool
-broken6 file = not (eqb (summed (map stepsOwned (nodes file))) (stepCount file)) || not (everyLeaf targetsFit (nodesWithSteps file))
+broken6 file = somewhere (wrong6 file)

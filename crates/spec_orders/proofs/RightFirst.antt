@@ -4,6 +4,7 @@ use mathlib.Core.List.{List, [], _∷_}
 use lib.ListN.{length}
 use Rattle.spec_policy.specs.Parts.{built}
 use Rattle.spec_policy.specs.Tree.{tree}
+use Rattle.spec_policy.specs.Spots.{bareFault}
 use Rattle.spec_turns.specs.Status.{running, ended}
 use Rattle.spec_turns.specs.Process.{stop, outcome}
 use Rattle.spec_turns.specs.Turn.{opening, offer, close}
@@ -46,7 +47,7 @@ opens-to : entry P11 opening unopened room .reply ≡ answers 0 running
 unfolding worked
 opens-to = refl
 
-refused : entry P11 (offer 64) afterOpening room .reply ≡ refuses 13
+refused : entry P11 (offer 64) afterOpening room .reply ≡ refuses (bareFault 13)
 unfolding worked
 refused = refl
 
@@ -56,7 +57,7 @@ closes-to = refl
 
 -- The replies as a run gives them. They are computed once, in `values`: compared while a run is built, they are computed at each step.
 abbrev told-so : List Reply
-told-so = answers (length (events [])) (status (outcome (asked P11 opening unopened) .state)) ∷ refuses 13 ∷ answers (length (events rightFirst)) (status (outcome closesIt .state)) ∷ []
+told-so = answers (length (events [])) (status (outcome (asked P11 opening unopened) .state)) ∷ refuses (bareFault 13) ∷ answers (length (events rightFirst)) (status (outcome closesIt .state)) ∷ []
 
 unfoldable ran : Runs P11 room unopened (opening ∷ offer 64 ∷ close ∷ []) told-so (saved (tree P11) (outcome closesIt .state))
 unfolding afterOpening afterRefusal

@@ -6,6 +6,7 @@ use mathlib.Core.List.{List, [], _∷_, _++_}
 use lib.ListN.{replicate}
 use Rattle.spec_policy.specs.Bytes.{Bytes}
 use Rattle.spec_policy.specs.Parts.{pair, «V», V′, built}
+use Rattle.spec_policy.specs.Spots.{bareFault}
 use Rattle.spec_policy.specs.Tree.{tree}
 use Rattle.spec_turns.specs.Status.{running, ended}
 use Rattle.spec_turns.specs.Process.{Item, Process, stop, outcome, trace, items}
@@ -50,7 +51,7 @@ unfoldable pub requests : List Request
 requests = opening ∷ offer 64 ∷ close ∷ []
 
 unfoldable pub gave : List Reply
-gave = answers 0 running ∷ refuses 13 ∷ answers 2 ended ∷ []
+gave = answers 0 running ∷ refuses (bareFault 13) ∷ answers 2 ended ∷ []
 
 pub record RightFirst : Type 0 where
   -- Opening leaves `afterOpening`, and the refused call leaves it as it is.

@@ -4,6 +4,7 @@ use mathlib.Core.Path.{_≡_}
 use mathlib.Core.List.{List, [], _∷_}
 use lib.ListN.{length}
 use Rattle.spec_policy.specs.Bytes.{Bytes}
+use Rattle.spec_policy.specs.Spots.{Fault}
 use Rattle.spec_policy.specs.Tree.{Tree, tree}
 use Rattle.spec_turns.specs.Status.{Status}
 use Rattle.spec_turns.specs.State.{status}
@@ -22,9 +23,9 @@ asked policy q state = call (tree policy) q (load (tree policy) (cells state))
 -- and the next call finds the state that this order saved.
 pub data Runs (policy room : Bytes) : Bytes → List Request → List Reply → Bytes → Type 0 where
   over : {state : Bytes} → Runs policy room state [] [] state
-  refusedThen : {state state′ : Bytes} {q : Request} {qs : List Request} {rs : List Reply} {n : ℕ}
-      → entry policy q state room .reply ≡ refuses n → Runs policy room (entry policy q state room .state) qs rs state′
-      → Runs policy room state (q ∷ qs) (refuses n ∷ rs) state′
+  refusedThen : {state state′ : Bytes} {q : Request} {qs : List Request} {rs : List Reply} {f : Fault}
+      → entry policy q state room .reply ≡ refuses f → Runs policy room (entry policy q state room .state) qs rs state′
+      → Runs policy room state (q ∷ qs) (refuses f ∷ rs) state′
   ranThen : {state state′ : Bytes} {q : Request} {qs : List Request} {rs : List Reply} {k n : ℕ} {s : Status} {xs : List Item} {x : Out}
       → entry policy q state room .reply ≡ answers k s → Order (asked policy q state) xs n (stop x)
       → Runs policy room (saved (tree policy) (x .state)) qs rs state′

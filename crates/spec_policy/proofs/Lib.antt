@@ -1,7 +1,9 @@
 pub mod ListLaws
+pub mod SpotLaws
 pub mod ByteLaws
 pub mod NumberLaws
 pub mod PartLaws
 pub mod EveryLoop
+pub mod FirstLoop
 pub mod Tested
 pub mod NodeLaws

@@ -4,7 +4,11 @@ pub mod MemberLaws
 pub mod LineLaws
 pub mod TableLaws
 pub mod TextLaws
+pub mod ShownLaws
+pub mod RemarkLaws
 pub mod WholeLaws
 pub mod RecordLaws
 pub mod Printable
 pub mod Examples
+pub mod WhereLaws
+pub mod CountLaws

@@ -88,7 +88,7 @@ filled-read (p ∷ ps) xs ys h =
 
 -- ---- no newline in them
 
-word-in : {w : Bytes} → Word w → T (every inLine w)
+pub word-in : {w : Bytes} → Word w → T (every inLine w)
 word-in {w} h = every-weaker plain inLine plain-stays w (h .letters)
 
 spaced-in : (xs : List ℕ) → T (every inLine (spaced xs))

@@ -3,7 +3,7 @@ use Prim.Native.Nat.{ℕ, zero, suc, _+_, _*_, _/_, _≤_, _<_}
 use native.Mathlib.Nat.{mul-add}
 use native.Mathlib.Omega.{arith}
 use mathlib.Core.Path.{_≡_, refl, ap, ap₂, _∙_, sym, subst, subst₂}
-use mathlib.Core.Bool.{_&&_}
+use mathlib.Core.Bool.{false, _&&_}
 use mathlib.Core.List.{[], _∷_, _++_, map}
 use lib.Dec.{T, eqb, leb, le→leb}
 use lib.ListN.{length, getD, take, drop, length-drop, drop-of-length-le}
@@ -17,7 +17,8 @@ use Rattle.spec_policy.specs.Tree.{NodeKind, aLeaf, aTrivial, anUnsatisfiable, 
 use Rattle.spec_policy.proofs.ByteLaws.{small-take, small-drop, number-less, part-part}
 use Rattle.spec_policy.proofs.NumberLaws.{number-byte}
 use Rattle.spec_policy.proofs.PartLaws.{node-part, step-part}
-use Rattle.spec_check.specs.Layout.{nodeFits, stepFits, CountsFit}
+use Rattle.spec_check.specs.Layout.{nodeFits, stepFits, broken3, broken4, CountsFit}
+use Rattle.spec_check.specs.Targets.{broken6}
 use Rattle.spec_check.specs.Check.{passes, check}
 use Rattle.spec_check.specs.Passed.{Passed}
 use Rattle.spec_check.proofs.Passed.{passed}
@@ -107,9 +108,9 @@ module _ (bs : Bytes) (at : ℕ) where
   row-cut : at + 12 ≤ length bs → stepRecordAt (take 12 (drop at bs)) 0 ≡ stepRecordAt bs at
   row-cut h = step-part bs at 12 h 0 (omega arith) ∙ ap (stepRecordAt bs) here
 
-module _ (file : Bytes) (small : Small file) (ok : Passed file) where
+module _ (file : Bytes) (small : Small file) (three : broken3 file ≡ false) (four : broken4 file ≡ false) (six : broken6 file ≡ false) where
   counts : CountsFit file
-  counts = counts-fit file (ok .kept3)
+  counts = counts-fit file three
 
   -- where a record lies among the records, and where in the file
   node-lies : (i : ℕ) → i < nodeCount file → take (size node) (drop (size node * i) (nodeBytes file)) ≡ take (size node) (drop (nodePlace i) file)
@@ -131,11 +132,11 @@ module _ (file : Bytes) (small : Small file) (ok : Passed file) where
   -- rule 4, of each record
   node-fits : (i : ℕ) → i < nodeCount file → T (nodeFits (nodeKind (nodeAt file (nodePlace i) .kind)) (nodeAt file (nodePlace i)))
   unfolding nodes
-  node-fits i h = every-listed (λ x. nodeFits (nodeKind (x .kind)) x) (λ i. nodeAt file (nodePlace i)) (nodeCount file) (nodes-fit file (ok .kept4)) i h
+  node-fits i h = every-listed (λ x. nodeFits (nodeKind (x .kind)) x) (λ i. nodeAt file (nodePlace i)) (nodeCount file) (nodes-fit file four) i h
 
   step-fits : (j : ℕ) → j < stepCount file → T (stepFits (stepRecordAt file (stepPlace file j)))
   unfolding stepRecords
-  step-fits j h = every-listed stepFits (λ j. stepRecordAt file (stepPlace file j)) (stepCount file) (steps-fit file (ok .kept4)) j h
+  step-fits j h = every-listed stepFits (λ j. stepRecordAt file (stepPlace file j)) (stepCount file) (steps-fit file four) j h
 
   -- ---- each record has a line
 
@@ -197,11 +198,12 @@ module _ (file : Bytes) (small : Small file) (ok : Passed file) where
   unfolding printed size nodes
   has-text =
       let q : length (nodeBytes file) / 16 ≡ nodeCount file = omega (arith, node-bytes-length file counts) in
-      subst (λ (n : ℕ). HasText (nodesText n 0 (nodeBytes file) (stepBytes file))) (sym q) (nodes-have (nodeCount file) 0 0 (omega arith) (omega (arith, all-owned file (ok .kept6))))
+      subst (λ (n : ℕ). HasText (nodesText n 0 (nodeBytes file) (stepBytes file))) (sym q) (nodes-have (nodeCount file) 0 0 (omega arith) (omega (arith, all-owned file six)))
+
+  -- A file whose records keep rule 4, and whose counts come out, goes to text and back, whether or not it passes.
+  pub there-and-back : ThereAndBack file
+  there-and-back = let p = has-text in record { text = p .0; prints = p .1; reads = read-text (nodeBytes file) (stepBytes file) (p .0) (p .1) }
 
 -- Every file that the check passes goes to text and back.
 pub read-printed : (file : Bytes) (r e : ActionSet) → Small file → check file ≡ passes r e → ThereAndBack file
-read-printed file r e small h =
-    let ok : Passed file = passed file r e h in
-    let p = has-text file small ok in
-    record { text = p .0; prints = p .1; reads = read-text (nodeBytes file) (stepBytes file) (p .0) (p .1) }
+read-printed file r e small h = let ok : Passed file = passed file r e h in there-and-back file small (ok .kept3) (ok .kept4) (ok .kept6)

@@ -22,13 +22,13 @@ use Rattle.spec_text.proofs.TableLaws.{Kind, kind-is}
 -- ---- a record
 
 -- A record's text is one line, which is read as a form and fields that give the record again.
-record Line₁ (s : Sort) (bs t : Bytes) : Type 0 where
-  form : Form
-  fields : Fields
-  sort : form .sort ≡ s
-  room : countIn s bs ≤ form .room
-  again : recordOf s (countIn s bs) fields ≡ bs
-  reads : (rest : Bytes) → readLines (t ++ rest) ≡ entry form fields ∷ readLines rest
+pub record Line₁ (s : Sort) (bs t : Bytes) : Type 0 where
+  pub form : Form
+  pub fields : Fields
+  pub sort : form .sort ≡ s
+  pub room : countIn s bs ≤ form .room
+  pub again : recordOf s (countIn s bs) fields ≡ bs
+  pub reads : (rest : Bytes) → readLines (t ++ rest) ≡ entry form fields ∷ readLines rest
 
 module _ (s : Sort) (i : ℕ) (bs t : Bytes) where
   told : (f : Form) → ofKind s (getD bs 0 0) ≡ some f → (b : Bool) → says s f bs ≡ b → printedIf b (lineText s f (fieldsIn s bs) i ++ (newline ∷ [])) ≡ text t → Line₁ s bs t
@@ -52,7 +52,7 @@ module _ (s : Sort) (i : ℕ) (bs t : Bytes) where
             (line-read f (k .word) s (fieldsIn s bs) i (k .found) (and-right a b ab));
       }
 
-  record-read : recordText s i bs ≡ text t → Line₁ s bs t
+  pub record-read : recordText s i bs ≡ text t → Line₁ s bs t
   unfolding recordText
   record-read e = go (ofKind s (getD bs 0 0)) refl
     where
@@ -62,14 +62,14 @@ module _ (s : Sort) (i : ℕ) (bs t : Bytes) where
 
 -- ---- texts one after another
 
-record Parts (p q : Print) (t : Bytes) : Type 0 where
-  first : Bytes
-  second : Bytes
-  is-first : p ≡ text first
-  is-second : q ≡ text second
-  whole : t ≡ first ++ second
+pub record Parts (p q : Print) (t : Bytes) : Type 0 where
+  pub first : Bytes
+  pub second : Bytes
+  pub is-first : p ≡ text first
+  pub is-second : q ≡ text second
+  pub whole : t ≡ first ++ second
 
-both-parts : (p q : Print) (t : Bytes) → both p q ≡ text t → Parts p q t
+pub both-parts : (p q : Print) (t : Bytes) → both p q ≡ text t → Parts p q t
 unfolding both
 both-parts (text x) (text y) t e = record { first = x; second = y; is-first = refl; is-second = refl; whole = (cc) }
 both-parts (text x) noText t e = let z : _≡_ {A = ℕ} 0 1 = cc in absurd (omega arith)
@@ -81,11 +81,11 @@ line-first {t = t} l u rest = ap readLines (append-assoc t u rest) ∙ l .reads 
 
 -- ---- a leaf's steps, before what follows them
 
-step-read : (f : Form) (xs : Fields) (ls : List Line) (r n : ℕ) → f .sort ≡ step → readFrom (suc r) n (entry f xs ∷ ls) ≡ withStep xs (readFrom r (suc n) ls)
+pub step-read : (f : Form) (xs : Fields) (ls : List Line) (r n : ℕ) → f .sort ≡ step → readFrom (suc r) n (entry f xs ∷ ls) ≡ withStep xs (readFrom r (suc n) ls)
 unfolding readFrom
 step-read f xs ls r n e = rw (e, readFrom)
 
-node-read : (f : Form) (xs : Fields) (ls : List Line) (r n : ℕ) → f .sort ≡ node → readFrom r n (entry f xs ∷ ls) ≡ withNode xs (readFrom (f .room) (suc n) ls)
+pub node-read : (f : Form) (xs : Fields) (ls : List Line) (r n : ℕ) → f .sort ≡ node → readFrom r n (entry f xs ∷ ls) ≡ withNode xs (readFrom (f .room) (suc n) ls)
 unfolding readFrom
 node-read f xs ls r n e = rw (e, readFrom)
 
@@ -136,7 +136,11 @@ nodes-read (suc k) i ns ss t e r n =
     ∙ ap (withNode (x .fields)) after
     ∙ ap (λ (u : Bytes). found 0 u ss) (ap (λ (u : Bytes). u ++ drop (size node) ns) (x .again) ∙ take-append-drop (size node) ns)
 
--- "From text to file and back": what records are printed as is read as those records.
+-- "From text to file and back": what records are printed as is read as those records, from whatever line on.
+pub read-on : (ns ss t : Bytes) → printed ns ss ≡ text t → (r n : ℕ) → readFrom r n (readLines t) ≡ found 0 ns ss
+unfolding printed
+read-on ns ss t e r n = nodes-read (length ns / size node) 0 ns ss t e r n
+
 pub read-text : (ns ss t : Bytes) → printed ns ss ≡ text t → readText t ≡ records ns ss
-unfolding printed readText answer
-read-text ns ss t e = ap answer (nodes-read (length ns / size node) 0 ns ss t e 0 1)
+unfolding readText answer
+read-text ns ss t e = ap answer (read-on ns ss t e 0 1)

@@ -3,6 +3,7 @@ pub mod Numerals
 pub mod Forms
 pub mod Reading
 pub mod Printing
+pub mod Where
 pub mod Files
 pub mod Opened
 pub mod Examples

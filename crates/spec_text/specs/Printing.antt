@@ -1,5 +1,5 @@
 -- What records are printed as.
-use Prim.Native.Nat.{ℕ, zero, suc, _*_, _/_}
+use Prim.Native.Nat.{ℕ, zero, suc, _+_, _*_, _/_, min}
 use Prim.Native.Char.{code}
 use mathlib.Core.Bool.{Bool, true, false, _&&_}
 use mathlib.Core.List.{List, [], _∷_, _++_}
@@ -50,9 +50,13 @@ unfoldable pub indent : Sort → Bytes
 indent node = []
 indent step = ascii "  "
 
+unfoldable pub title : Sort → Bytes
+title node = ascii "# node "
+title step = ascii "# step "
+
 unfoldable pub remark : Sort → Bytes
-remark node = ascii "  # node "
-remark step = ascii "  # step "
+unfolding title
+remark s = ascii "  " ++ title s
 
 unfoldable pub lineText : Sort → Form → Fields → ℕ → Bytes
 unfolding arguments indent remark
@@ -99,3 +103,45 @@ nodesText (suc n) i ns ss =
 
 unfoldable pub printed : Bytes → Bytes → Print
 printed ns ss = nodesText (length ns / size node) 0 ns ss
+
+-- ---- all records, whatever they hold
+
+-- a space before each number
+unfoldable pub parted : List ℕ → Bytes
+parted [] = []
+parted (b ∷ bs) = space ∷ (decimal b ++ parted bs)
+
+-- a record's bytes in a remark: "# node 3: 1 0 0 5 .."
+unfoldable pub bytesText : Sort → ℕ → Bytes → Bytes
+bytesText s i bs = indent s ++ (title s ++ (decimal i ++ (ascii ":" ++ (parted bs ++ (newline ∷ [])))))
+
+-- a record's line, or its bytes where it has none
+unfoldable pub shownRecord : Sort → ℕ → Bytes → Bytes
+shownRecord s i bs = elim (recordText s i bs) [ text t ↦ t | noText ↦ bytesText s i bs ]
+
+-- n steps, from number j on
+unfoldable pub shownSteps : ℕ → ℕ → Bytes → Bytes
+shownSteps zero j ss = []
+shownSteps (suc n) j ss = shownRecord step j (take (size step) ss) ++ shownSteps n (suc j) (drop (size step) ss)
+
+-- how many of the steps that are left a node has: as many as it counts, if there are as many
+unfoldable pub stepsHad : Bytes → Bytes → ℕ
+stepsHad x ss = min (countIn node x) (length ss / size step)
+
+-- n steps that no node counts, from number j on
+unfoldable pub shownLeft : ℕ → ℕ → Bytes → Bytes
+shownLeft zero j ss = []
+shownLeft (suc n) j ss = ascii "# steps of no leaf\n" ++ shownSteps (suc n) j ss
+
+-- n nodes from number i on, each with its steps; then the steps that are left. These have no leaf to be numbered in and are numbered over the whole
+-- file, as refusals number steps: j is the number there of the first of the steps.
+unfoldable pub shownNodes : ℕ → ℕ → ℕ → Bytes → Bytes → Bytes
+shownNodes zero i j ns ss = shownLeft (length ss / size step) j ss
+shownNodes (suc n) i j ns ss =
+    let x = take (size node) ns in
+    let k = stepsHad x ss in
+    shownRecord node i x ++ (shownSteps k 0 ss ++ shownNodes n (suc i) (j + k) (drop (size node) ns) (drop (size step * k) ss))
+
+-- Every record in the file's order. Where records have a text, it is that text (`shown-text` of proofs/ShownLaws).
+unfoldable pub shownRecords : Bytes → Bytes → Bytes
+shownRecords ns ss = shownNodes (length ns / size node) 0 0 ns ss

@@ -8,6 +8,7 @@ use lib.ListN.{length}
 use Rattle.actions.specs.Sets.{isAction}
 use Rattle.spec_policy.specs.Bytes.{Bytes, put}
 use Rattle.spec_policy.specs.Tree.{Tree, tree}
+use Rattle.spec_policy.specs.Spots.{Fault, bareFault}
 use Rattle.spec_check.specs.Check.{passes, refused, check}
 use Rattle.spec_turns.specs.Status.{Status, statusOf, isHalted}
 use Rattle.spec_turns.specs.State.{status}
@@ -23,7 +24,7 @@ eventRoom = 512
 -- "The answer is the event count and the root's status." "A refusal returns that number and zero events".
 pub data Reply : Type 0 where
   answers : (count : ℕ) (root : Status) → Reply
-  refuses : (number : ℕ) → Reply
+  refuses : Fault → Reply
 
 -- What a call gives: its answer, and all that the two lent buffers hold afterwards.
 pub record Result : Type 0 where
@@ -31,9 +32,9 @@ pub record Result : Type 0 where
   pub state : Bytes
   pub events : Bytes
 
--- "A refusal returns that number ..; state and event buffers keep every byte."
-unfoldable pub refusal : ℕ → Bytes → Bytes → Result
-refusal n state room = record { reply = refuses n; state = state; events = room }
+-- "A refusal returns that number ..; state and event buffers keep every byte." "Every caller passes the place on unchanged."
+unfoldable pub refusal : Fault → Bytes → Bytes → Result
+refusal f state room = record { reply = refuses f; state = state; events = room }
 
 -- what a call gives that runs a process: "Event bytes after the last event are unchanged."
 unfoldable pub carried : Tree → Process → Bytes → Result
@@ -61,7 +62,7 @@ broken13 a = not (isAction a)
 unfoldable pub broken14 : Bytes → Bool
 broken14 state = isHalted (statusOf (statusAt (cells state) 0))
 
--- A refusal's number, and whether it applies.
+-- A refusal's number, and whether it applies. "Refusals 4 to 10 shall also carry a place": those from 11 on have no spot.
 pub record Refusal : Type 0 where
   pub number : ℕ
   pub applies : Bool
@@ -83,11 +84,11 @@ refusals policy close state room =
 -- "The lowest number that applies is given."
 unfoldable pub unless : List Refusal → Bytes → Request → Bytes → Bytes → Result
 unless [] policy q state room = carriedOut policy q state room
-unless (r ∷ rs) policy q state room = elim (r .applies) [ true ↦ refusal (r .number) state room | false ↦ unless rs policy q state room ]
+unless (r ∷ rs) policy q state room = elim (r .applies) [ true ↦ refusal (bareFault (r .number)) state room | false ↦ unless rs policy q state room ]
 
 unfoldable pub entry : Bytes → Request → Bytes → Bytes → Result
 entry policy q state room = elim (check policy) [
-  | refused n ↦ refusal n state room
+  | refused f ↦ refusal f state room
   | passes r e ↦ unless (refusals policy q state room) policy q state room
 ]
 

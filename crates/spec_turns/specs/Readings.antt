@@ -7,6 +7,7 @@ use lib.ListN.{take, replicate}
 use Rattle.spec_policy.specs.Bytes.{Bytes}
 use Rattle.spec_policy.specs.Tree.{Tree, tree}
 use Rattle.spec_policy.specs.Parts.{Part, next, ok, sup as sups, ins as inserts, spend, end, halt, joined, leafOf, top, bottom, alone, pair, L, «V», V′, W, F, built}
+use Rattle.spec_policy.specs.Spots.{Fault, bareFault, faultOn}
 use Rattle.spec_check.specs.Check.{passes}
 use Rattle.spec_turns.specs.Status.{running, ended, endedLeft, endedRight, halted}
 use Rattle.spec_turns.specs.Process.{items, trace, outcome}
@@ -134,18 +135,18 @@ pub record Asking : Type 0 where
   pub request : Request
   pub state : Bytes
   pub room : Bytes
-  pub number : ℕ
+  pub fault : Fault
 
--- a refusal returns its number and writes nothing
+-- a refusal returns its number, with the spot that the check gave, and writes nothing
 unfoldable pub refusedBy : Asking → Result
-refusedBy x = record { reply = refuses (x .number); state = x .state; events = x .room }
+refusedBy x = record { reply = refuses (x .fault); state = x .state; events = x .room }
 
 unfoldable pub givenBy : Asking → Result
 givenBy x = entry (x .policy) (x .request) (x .state) (x .room)
 
 -- closing it from this state is refused 12
 unfoldable pub unfit : Bytes → Bytes → Asking
-unfit policy state = record { policy = policy; request = close; state = state; room = replicate 512 7; number = 12 }
+unfit policy state = record { policy = policy; request = close; state = state; room = replicate 512 7; fault = bareFault 12 }
 
 -- a state's bytes: the eight in front with the count of running leaves, the cells given, and zeros
 unfoldable pub stateOf : ℕ → List Bytes → Bytes
@@ -163,14 +164,17 @@ threeRecords count n l r = stateOf count (only n ∷ only l ∷ only r ∷ [])
 unfoldable pub refusedCalls : List Asking
 unfolding built unfit stateOf only threeRecords
 refusedCalls =
-    record { policy = []; request = opening; state = []; room = []; number = 1 }
+    record { policy = []; request = opening; state = []; room = []; fault = bareFault 1 }
+    -- the check's, with its spot, before 11
+    ∷ record { policy = pair 4 «V» W; request = opening; state = []; room = []; fault = faultOn 9 0 }
+    ∷ record { policy = alone (leafOf (1 ∷ []) 0 (next 1 2 ∷ ok 0 ∷ inserts 3 0 ∷ [])); request = offer 64; state = []; room = []; fault = faultOn 7 0 }
     -- 11 before 12, 13 and 14: "256 bytes"
-    ∷ record { policy = alone bottom; request = offer 64; state = replicate 255 9; room = replicate 512 7; number = 11 }
-    ∷ record { policy = alone bottom; request = close; state = replicate 257 0; room = replicate 512 7; number = 11 }
-    ∷ record { policy = alone bottom; request = close; state = replicate 248 0; room = replicate 512 7; number = 11 }
-    ∷ record { policy = alone bottom; request = opening; state = replicate 256 0; room = replicate 511 7; number = 11 }
+    ∷ record { policy = alone bottom; request = offer 64; state = replicate 255 9; room = replicate 512 7; fault = bareFault 11 }
+    ∷ record { policy = alone bottom; request = close; state = replicate 257 0; room = replicate 512 7; fault = bareFault 11 }
+    ∷ record { policy = alone bottom; request = close; state = replicate 248 0; room = replicate 512 7; fault = bareFault 11 }
+    ∷ record { policy = alone bottom; request = opening; state = replicate 256 0; room = replicate 511 7; fault = bareFault 11 }
     -- 12 before 13: no status 0
-    ∷ record { policy = alone bottom; request = offer 64; state = replicate 256 0; room = replicate 512 7; number = 12 }
+    ∷ record { policy = alone bottom; request = offer 64; state = replicate 256 0; room = replicate 512 7; fault = bareFault 12 }
     -- a leaf at a step that is no next; a counter above its start; two bytes that are not zero; a record too many; the root dropped
     ∷ unfit (alone L) (stateOf 1 ((1 ∷ 1 ∷ replicate 6 0) ∷ []))
     ∷ unfit (alone L) (stateOf 1 ((1 ∷ 0 ∷ 0 ∷ 0 ∷ 0 ∷ 0 ∷ 0 ∷ 4 ∷ []) ∷ []))
@@ -196,10 +200,10 @@ refusedCalls =
     ∷ unfit (pair 4 top top) (threeRecords 0 2 2 2)
     ∷ unfit (pair 4 top W) (threeRecords 0 1 2 6)
     -- 13 before 14
-    ∷ record { policy = alone bottom; request = offer 64; state = stateOf 0 (only 5 ∷ []); room = replicate 512 7; number = 13 }
-    ∷ record { policy = alone bottom; request = offer 63; state = stateOf 0 (only 5 ∷ []); room = replicate 512 7; number = 14 }
+    ∷ record { policy = alone bottom; request = offer 64; state = stateOf 0 (only 5 ∷ []); room = replicate 512 7; fault = bareFault 13 }
+    ∷ record { policy = alone bottom; request = offer 63; state = stateOf 0 (only 5 ∷ []); room = replicate 512 7; fault = bareFault 14 }
     -- an ended root accepts 0 to 63
-    ∷ record { policy = alone top; request = offer 64; state = stateOf 0 (only 2 ∷ []); room = replicate 512 7; number = 13 }
+    ∷ record { policy = alone top; request = offer 64; state = stateOf 0 (only 2 ∷ []); room = replicate 512 7; fault = bareFault 13 }
     ∷ []
 
 unfoldable pub AllRefused : Type 0

@@ -5,6 +5,7 @@ use mathlib.Core.List.{List, [], _∷_, _++_, map}
 use lib.ListN.{length, take, replicate}
 use Rattle.spec_policy.specs.Bytes.{Bytes}
 use Rattle.spec_policy.specs.Parts.{alone, pair, top, bottom, L, «V», V′, W, built}
+use Rattle.spec_policy.specs.Spots.{bareFault, faultOn}
 use Rattle.spec_check.specs.Check.{Answer, passes, refused, check}
 use Rattle.spec_turns.specs.Status.{Status, running, ended, endedRight, halted}
 use Rattle.spec_turns.specs.Turn.{Request, opening, offer, close}
@@ -64,7 +65,7 @@ says s es = record { reply = answers (length es) s; written = all es }
     all (e ∷ es) = e ++ all es
 
 unfoldable pub refusesWith : ℕ → Heard
-refusesWith n = record { reply = refuses n; written = [] }
+refusesWith n = record { reply = refuses (bareFault n); written = [] }
 
 -- offered n - 1, .., 1, 0
 unfoldable pub offersBelow : ℕ → List Request
@@ -98,10 +99,10 @@ cases =
       requests = opening ∷ offer 4 ∷ close ∷ [];
       told = record { size = 82; answer = passes 16 24; heard = says running [] ∷ says running (sup 4 ∷ ins 3 ∷ []) ∷ says ended (ins 3 ∷ []) ∷ [] };
     }
-    -- "P4 V parallel-and W: refusal 9."
-    ∷ record { policy = pair 4 «V» W; requests = []; told = record { size = 150; answer = refused 9; heard = [] } }
+    -- "P4 V parallel-and W: refusal 9.", at the root: "For 9 and 10 it is the node."
+    ∷ record { policy = pair 4 «V» W; requests = []; told = record { size = 150; answer = refused (faultOn 9 0); heard = [] } }
     -- "P5 W parallel-and W: refusal 9; L with L passes."
-    ∷ record { policy = pair 4 W W; requests = []; told = record { size = 126; answer = refused 9; heard = [] } }
+    ∷ record { policy = pair 4 W W; requests = []; told = record { size = 126; answer = refused (faultOn 9 0); heard = [] } }
     ∷ record { policy = pair 4 L L; requests = []; told = record { size = 174; answer = passes 4 0; heard = [] } }
     -- "P6 V sequential-and W, on 4: suppressed 4 only."
     ∷ record {

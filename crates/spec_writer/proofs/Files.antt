@@ -14,6 +14,7 @@ use Rattle.spec_policy.specs.Bytes.{Bytes, spelt, number, spell, put}
 use Rattle.spec_policy.specs.Records.{nodeSize, stepSize, mostNodes, mostSteps, lengthField, versionField, nodeCount, stepCount, nodePlace, stepPlace}
 use Rattle.spec_policy.specs.Parts.{file}
 use Rattle.spec_policy.proofs.ByteLaws.{spelt-spell}
+use Rattle.spec_policy.specs.Spots.{bareFault}
 use Rattle.spec_check.specs.Layout.{broken1, broken2, broken3, CountsFit}
 use Rattle.spec_check.specs.Check.{rules, Answer, refused, tried, check}
 use Rattle.spec_check.proofs.Rows.{counts-fit}
@@ -123,15 +124,15 @@ module _ (nodes steps : Bytes) where
 
   -- ---- the writer's answer, by the check of the file
 
-  three : broken3 (written nodes steps) ≡ true → tried fromThree (written nodes steps) ≡ refused 3
+  three : broken3 (written nodes steps) ≡ true → tried fromThree (written nodes steps) ≡ refused (bareFault 3)
   unfolding tried fromThree rules
   three e = rw (e, tried)
 
-  pub unlent : (out : Bytes) → lendable nodes steps ≡ false → writes nodes steps out ≡ refusal 3 out
+  pub unlent : (out : Bytes) → lendable nodes steps ≡ false → writes nodes steps out ≡ refusal (bareFault 3) out
   unfolding writes after
   unlent out e = go (whole nodeSize nodes && whole stepSize steps) refl (broken3 (written nodes steps)) refl
     where
-      go : (w : Bool) → (whole nodeSize nodes && whole stepSize steps) ≡ w → (b : Bool) → broken3 (written nodes steps) ≡ b → writes nodes steps out ≡ refusal 3 out
+      go : (w : Bool) → (whole nodeSize nodes && whole stepSize steps) ≡ w → (b : Bool) → broken3 (written nodes steps) ≡ b → writes nodes steps out ≡ refusal (bareFault 3) out
       go false h b k = rw (h, writes)
       go true h true k = rw (h, writes, three k)
       go true h false k =

@@ -15,6 +15,7 @@ use Rattle.spec_policy.specs.Records.{nodeSize, stepSize, nodeCount, stepCount,
 use Rattle.spec_policy.specs.Tree.{regulated, tree}
 use Rattle.spec_policy.specs.Parts.{file}
 use Rattle.spec_policy.proofs.ByteLaws.{drop-after}
+use Rattle.spec_policy.specs.Spots.{Fault, bareFault}
 use Rattle.spec_policy.proofs.PartLaws.{node-part, step-part}
 use Rattle.spec_check.specs.Interference.{effects}
 use Rattle.spec_check.specs.Check.{Rule, rules, Answer, passes, refused, check}
@@ -70,10 +71,10 @@ module _ (lentNodes lentSteps : Bytes) (l : Lent lentNodes lentSteps) where
 -- ---- how the writer's answer comes about
 
 data How (lentNodes lentSteps out : Bytes) : Result → Type 0 where
-  refused3 : lendable lentNodes lentSteps ≡ false → How lentNodes lentSteps out (refusal 3 out)
-  refusedBy : {k : ℕ} → Lent lentNodes lentSteps → check (written lentNodes lentSteps) ≡ refused k → How lentNodes lentSteps out (refusal k out)
+  refused3 : lendable lentNodes lentSteps ≡ false → How lentNodes lentSteps out (refusal (bareFault 3) out)
+  refusedBy : {k : Fault} → Lent lentNodes lentSteps → check (written lentNodes lentSteps) ≡ refused k → How lentNodes lentSteps out (refusal k out)
   refused15 : {r e : ℕ} → Lent lentNodes lentSteps → check (written lentNodes lentSteps) ≡ passes r e → length out < length (written lentNodes lentSteps)
-      → How lentNodes lentSteps out (refusal 15 out)
+      → How lentNodes lentSteps out (refusal (bareFault 15) out)
   done : {r e : ℕ} → Lent lentNodes lentSteps → check (written lentNodes lentSteps) ≡ passes r e → length (written lentNodes lentSteps) ≤ length out
       → How lentNodes lentSteps out (record { reply = wrote (length (written lentNodes lentSteps)); out = put out 0 (written lentNodes lentSteps) })
 
@@ -126,35 +127,36 @@ module _ (lentNodes lentSteps out : Bytes) where
 
 -- ---- what it refuses
 
-module _ {made : Bytes} {k : ℕ} where
+module _ {made : Bytes} {k : Fault} where
   skip : {r : Rule} {rs : List Rule} → r .broken made ≡ false → Lowest made k (r ∷ rs) → Lowest made k rs
   skip e (here f s) = true-not-false f e
   skip e (after f l) = l
 
-  among : (rs : List Rule) → T (every (λ r. leb 4 (r .number) && leb (r .number) 10) rs) → Lowest made k rs → (4 ≤ k) × (k ≤ 10)
+  among : (rs : List Rule) → T (every (λ r. leb 4 (r .number) && leb (r .number) 10) rs) → Lowest made k rs → (4 ≤ k .number) × (k .number ≤ 10)
   unfolding every
   among (r ∷ rs) t (here f s) =
       let u = and-left (leb 4 (r .number) && leb (r .number) 10) (every (λ r. leb 4 (r .number) && leb (r .number) 10) rs) t in
       let a = leb→le 4 (r .number) (and-left (leb 4 (r .number)) (leb (r .number) 10) u) in
       let b = leb→le (r .number) 10 (and-right (leb 4 (r .number)) (leb (r .number) 10) u) in
+      let n : r .number ≡ k .number = ap (λ (x : Fault). x .number) s in
       (omega arith, omega arith)
   among (r ∷ rs) t (after f l) = among rs (and-right (leb 4 (r .number) && leb (r .number) 10) (every (λ r. leb 4 (r .number) && leb (r .number) 10) rs) t) l
 
 module _ (lentNodes lentSteps out : Bytes) where
-  four-to-ten : {j : ℕ} → Lent lentNodes lentSteps → check (written lentNodes lentSteps) ≡ refused j → (4 ≤ j) × (j ≤ 10)
+  four-to-ten : {j : Fault} → Lent lentNodes lentSteps → check (written lentNodes lentSteps) ≡ refused j → (4 ≤ j .number) × (j .number ≤ 10)
   unfolding rules every
   four-to-ten {j} l h =
       among _ tt (skip (kept3 lentNodes lentSteps l) (skip (kept2 lentNodes lentSteps l) (skip (kept1 lentNodes lentSteps l) (refused-lowest (written lentNodes lentSteps) j h))))
 
-  because : (x : Result) (k : ℕ) → How lentNodes lentSteps out x → x .reply ≡ refuses k → (x .out ≡ out) × Why lentNodes lentSteps out k
+  because : (x : Result) (k : Fault) → How lentNodes lentSteps out x → x .reply ≡ refuses k → (x .out ≡ out) × Why lentNodes lentSteps out k
   unfolding refusal
-  because x k (refused3 h) e = let z : 3 ≡ k = cc in (refl, subst (Why lentNodes lentSteps out) z (unlent h))
+  because x k (refused3 h) e = let z : bareFault 3 ≡ k = cc in (refl, subst (Why lentNodes lentSteps out) z (unlent h))
   because x k (refusedBy {k = j} l h) e =
       let z : j ≡ k = cc in
       let u = four-to-ten l h in
       (refl, subst (Why lentNodes lentSteps out) z (broken l h (u .0) (u .1)))
-  because x k (refused15 l h s) e = let z : 15 ≡ k = cc in (refl, subst (Why lentNodes lentSteps out) z (short l h s))
+  because x k (refused15 l h s) e = let z : bareFault 15 ≡ k = cc in (refl, subst (Why lentNodes lentSteps out) z (short l h s))
   because x k (done l h s) e = let z : _≡_ {A = ℕ} 0 1 = cc in absurd (omega arith)
 
-  pub refused-why : (k : ℕ) → writes lentNodes lentSteps out .reply ≡ refuses k → (writes lentNodes lentSteps out .out ≡ out) × Why lentNodes lentSteps out k
+  pub refused-why : (k : Fault) → writes lentNodes lentSteps out .reply ≡ refuses k → (writes lentNodes lentSteps out .out ≡ out) × Why lentNodes lentSteps out k
   refused-why k e = because (writes lentNodes lentSteps out) k (how lentNodes lentSteps out) e

@@ -7,6 +7,7 @@ use Rattle.actions.specs.Sets.{ActionSet}
 use Rattle.spec_policy.specs.Bytes.{Bytes, put}
 use Rattle.spec_policy.specs.Records.{nodes, stepRecords, nodeBytes, stepBytes}
 use Rattle.spec_policy.specs.Tree.{regulated, tree}
+use Rattle.spec_policy.specs.Spots.{Fault, bareFault}
 use Rattle.spec_check.specs.Interference.{effects}
 use Rattle.spec_check.specs.Check.{passes, refused, check}
 use Rattle.spec_writer.specs.Writing.{written, wrote, Result, writes}
@@ -28,10 +29,12 @@ pub record ReadBack (lentNodes lentSteps out : Bytes) (n : ℕ) (x : Result) : T
 abbrev pub WrittenAgain : Bytes → Type 0
 WrittenAgain made = (out : Bytes) → length made ≤ length out → writes (nodeBytes made) (stepBytes made) out ≡ record { reply = wrote (length made); out = put out 0 made }
 
--- Why k was given: "the check's from 3 on (3 for a broken record too), and 15 when the lent output is shorter than the file, tried last".
--- 3 is given for what is lent alone, since the writer makes the length and the counts itself.
-pub data Why (lentNodes lentSteps out : Bytes) : ℕ → Type 0 where
-  unlent : lendable lentNodes lentSteps ≡ false → Why lentNodes lentSteps out 3
-  broken : {k : ℕ} → Lent lentNodes lentSteps → check (written lentNodes lentSteps) ≡ refused k → 4 ≤ k → k ≤ 10 → Why lentNodes lentSteps out k
+-- Why f was given: "the check's from 3 on (3 for a broken record too), and 15 when the lent output is shorter than the file, tried last".
+-- 3 is given for what is lent alone, since the writer makes the length and the counts itself. From 4 to 10 the
+-- fault is the check's, on the file that would be written: "Every caller passes the place on unchanged."
+pub data Why (lentNodes lentSteps out : Bytes) : Fault → Type 0 where
+  unlent : lendable lentNodes lentSteps ≡ false → Why lentNodes lentSteps out (bareFault 3)
+  broken : {f : Fault} → Lent lentNodes lentSteps → check (written lentNodes lentSteps) ≡ refused f → 4 ≤ f .number → f .number ≤ 10
+      → Why lentNodes lentSteps out f
   short : {r e : ActionSet} → Lent lentNodes lentSteps → check (written lentNodes lentSteps) ≡ passes r e → length out < length (written lentNodes lentSteps)
-      → Why lentNodes lentSteps out 15
+      → Why lentNodes lentSteps out (bareFault 15)

@@ -19,7 +19,8 @@ use Rattle.spec_text.specs.Words.{space, ascii}
 use Rattle.spec_text.specs.Numerals.{digit, digits, decimal}
 use Rattle.spec_text.specs.Printing.{listing, spaced}
 use Rattle.text_append.specs.Added.{limit, reached, moved, Added, Tells, led}
-use Rattle.text_append.specs.Refusal.{refusal}
+use Rattle.spec_policy.specs.Spots.{Spot, nowhere, onRecord, Fault}
+use Rattle.text_append.specs.Refusal.{spotWords, refusal}
 
 -- ---- places
 
@@ -275,7 +276,12 @@ pub decimal-below : (j n : ℕ) → n < 10 ^ suc j → length (decimal n) ≤ su
 unfolding decimal
 decimal-below j n h = digits-below j n n h
 
--- a refusal's number is a byte
-pub refusal-short : (n : ℕ) → n < 256 → length (refusal n) ≤ 12
+spot-short : (w : Spot) → ((p : ℕ) → w ≡ onRecord p → p < 1000) → length (spotWords w) ≤ 7
+unfolding spotWords ascii
+spot-short nowhere h = omega arith
+spot-short (onRecord p) h = simp length-append (omega (arith, decimal-below 2 p (h p refl)))
+
+-- a number of two digits, and a record's of three
+pub refusal-short : (f : Fault) → f .number < 100 → ((p : ℕ) → f .spot ≡ onRecord p → p < 1000) → length (refusal f) ≤ 18
 unfolding refusal ascii
-refusal-short n h = simp length-append (omega (arith, decimal-below 2 n (omega arith)))
+refusal-short f h k = simp length-append (omega (arith, decimal-below 1 (f .number) (omega arith), spot-short (f .spot) k))

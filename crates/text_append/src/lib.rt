@@ -6,12 +6,15 @@ ghost use Rattle.spec_text.specs.Numerals.{digit, decimal};
 ghost use Rattle.spec_text.specs.Forms.{actions};
 ghost use Rattle.spec_text.specs.Printing.{listing, spaced, argument};
 ghost use Rattle.text_append.specs.Added.{moved, Added, led};
-ghost use Rattle.text_append.specs.Refusal.{refusal};
+ghost use Rattle.text_append.specs.Refusal.{spotWords, refusal};
+ghost use Rattle.faults.specs.Meaning.{spotOf, faultOf};
 use actions::ActionSet;
+use faults::Fault;
+use faults::Spot;
 
 const LIMIT: usize = 9223372036854775808;
 
-fn least(a: usize, b: usize) -> usize
+pub fn least(a: usize, b: usize) -> usize
     ensures { λ r. ⌜ r ≡ min a b ⌝ }
 {
     if a <= b { a } else { b }
@@ -101,10 +104,25 @@ pub fn append_set(out: &mut [u8], at: usize, set: ActionSet) -> usize
     append(out, end, b"}")
 }
 
-pub fn refuse(out: &mut [u8], at: usize, n: u8) -> usize
-    ensures { λ r. ⌜ Added (now (out .entry)) at (refusal n) (now (out .exit)) r ⌝ }
+// " at P", if there is a record.
+fn append_spot(out: &mut [u8], at: usize, spot: Spot) -> usize
+    ensures { λ r. ⌜ Added (now (out .entry)) at (spotWords (spotOf spot)) (now (out .exit)) r ⌝ }
 {
+    match spot {
+        Spot::Nowhere => append(out, at, b""),
+        Spot::Record(p) => {
+            let named = append(out, at, b" at ");
+            append_number(out, named, p as u64)
+        }
+    }
+}
+
+pub fn refuse(out: &mut [u8], at: usize, fault: Fault) -> usize
+    ensures { λ r. ⌜ Added (now (out .entry)) at (refusal (faultOf fault)) (now (out .exit)) r ⌝ }
+{
+    let spot = fault.spot;
     let named = append(out, at, b"refused ");
-    let numbered = append_number(out, named, n as u64);
-    append(out, numbered, b"\n")
+    let numbered = append_number(out, named, fault.number as u64);
+    let placed = append_spot(out, numbered, spot);
+    append(out, placed, b"\n")
 }

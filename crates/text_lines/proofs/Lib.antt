@@ -1,1 +1,1 @@
-pub mod LaidLaws
+mod LineLaws

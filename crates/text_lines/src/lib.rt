@@ -1,24 +1,19 @@
-// Records printed as lines, each after the one before it.
+// A record printed as a line: its own, or its bytes in a remark where it has none.
 ghost use mathlib.Core.Path.{_≡_};
 ghost use mathlib.Core.List.{[], _∷_, _++_};
-ghost use Prim.Native.Nat.{_*_, _≤_, _<_};
+ghost use Prim.Native.Nat.{_<_};
 ghost use lib.ListN.{length};
-ghost use Rattle.spec_policy.specs.Records.{stepSize};
 ghost use Rattle.spec_text.specs.Words.{newline};
-ghost use Rattle.spec_text.specs.Forms.{node, size, fieldsIn};
-ghost use Rattle.spec_text.specs.Printing.{both, arguments, indent, remark, lineText, countIn, recordText, stepsText, printed};
+ghost use Rattle.spec_text.specs.Forms.{size, fieldsIn};
+ghost use Rattle.spec_text.specs.Printing.{arguments, indent, title, lineText, parted, bytesText, shownRecord};
 ghost use Rattle.text_append.specs.Added.{Added};
 ghost use Rattle.text_forms.specs.Table.{formCount, formAt};
 ghost use Rattle.text_forms.specs.Meant.{sortOf, slotOf, slotsOf};
-ghost use Rattle.text_lines.specs.Laid.{Laid};
 use actions::ActionSet;
-use file_records::NODE_SIZE;
-use file_records::STEP_SIZE;
 use file_records::byte;
 use text_append::append;
 use text_append::append_number;
 use text_append::append_set;
-use text_forms::fields::counted;
 use text_forms::fields::field;
 use text_forms::fields::says;
 use text_forms::forms::FORM_COUNT;
@@ -27,12 +22,6 @@ use text_forms::forms::Slot;
 use text_forms::forms::Sort;
 use text_forms::forms::form_at;
 use text_forms::forms::form_of;
-
-// Where a text ends, if there is one.
-pub enum Place {
-    Ends(usize),
-    NoText,
-}
 
 fn argument(out: &mut [u8], at: usize, bytes: &[u8], sort: Sort, slot: Slot) -> usize
     requires { ⌜ length (now bytes) ≡ size (sortOf sort) ⌝ }
@@ -75,11 +64,11 @@ fn begin(out: &mut [u8], at: usize, sort: Sort) -> usize
 }
 
 fn mark(out: &mut [u8], at: usize, sort: Sort) -> usize
-    ensures { λ r. ⌜ Added (now (out .entry)) at (remark (sortOf sort)) (now (out .exit)) r ⌝ }
+    ensures { λ r. ⌜ Added (now (out .entry)) at (title (sortOf sort)) (now (out .exit)) r ⌝ }
 {
     match sort {
-        Sort::Node => append(out, at, b"  # node "),
-        Sort::Step => append(out, at, b"  # step "),
+        Sort::Node => append(out, at, b"# node "),
+        Sort::Step => append(out, at, b"# step "),
     }
 }
 
@@ -97,88 +86,49 @@ fn line(out: &mut [u8], at: usize, bytes: &[u8], sort: Sort, form: usize, i: usi
     let begun = begin(out, at, sort);
     let named = append(out, begun, &usage[..length]);
     let said = all_arguments(out, named, bytes, sort, row);
-    let marked = mark(out, said, sort);
+    let parted = append(out, said, b"  ");
+    let marked = mark(out, parted, sort);
     let end = append_number(out, marked, i as u64);
     append(out, end, b"\n")
 }
 
+// Each byte after a space.
+fn append_bytes(out: &mut [u8], at: usize, bytes: &[u8]) -> usize
+    ensures { λ r. ⌜ Added (now (out .entry)) at (parted (now (bytes .entry))) (now (out .exit)) r ⌝ }
+{
+    let mut end = at;
+    let mut i = 0;
+    while i < bytes.len() {
+        let spaced = append(out, end, b" ");
+        end = append_number(out, spaced, bytes[i] as u64);
+        i += 1;
+    }
+    end
+}
+
+// A record's bytes in a remark.
+fn bytes_line(out: &mut [u8], at: usize, bytes: &[u8], sort: Sort, i: usize) -> usize
+    ensures { λ r. ⌜ Added (now (out .entry)) at (bytesText (sortOf sort) i (now (bytes .entry))) (now (out .exit)) r ⌝ }
+{
+    let begun = begin(out, at, sort);
+    let marked = mark(out, begun, sort);
+    let numbered = append_number(out, marked, i as u64);
+    let named = append(out, numbered, b":");
+    let end = append_bytes(out, named, bytes);
+    append(out, end, b"\n")
+}
+
 // The line of a record, the i-th of its sort.
-fn record_line(out: &mut [u8], at: usize, bytes: &[u8], sort: Sort, i: usize) -> Place
+pub fn record_line(out: &mut [u8], at: usize, bytes: &[u8], sort: Sort, i: usize) -> usize
     requires { ⌜ length (now bytes) ≡ size (sortOf sort) ⌝ }
-    ensures { λ r. ⌜ Laid (recordText (sortOf sort) i (now (bytes .entry))) (now (out .entry)) at (now (out .exit)) r ⌝ }
+    ensures { λ r. ⌜ Added (now (out .entry)) at (shownRecord (sortOf sort) i (now (bytes .entry))) (now (out .exit)) r ⌝ }
 {
     let form = form_of(sort, byte(bytes, 0));
     if form >= FORM_COUNT {
-        return Place::NoText;
+        return bytes_line(out, at, bytes, sort, i);
     }
     if says(bytes, sort, form) {
-        return Place::Ends(line(out, at, bytes, sort, form, i));
+        return line(out, at, bytes, sort, form, i);
     }
-    Place::NoText
-}
-
-// The lines of a leaf's steps, the first `count` of those given.
-fn step_lines(out: &mut [u8], at: usize, steps: &[u8], count: usize) -> Place
-    requires { ⌜ stepSize * count ≤ length (now steps) ⌝ }
-    ensures { λ r. ⌜ Laid (stepsText count 0 (now (steps .entry))) (now (out .entry)) at (now (out .exit)) r ⌝ }
-{
-    let mut end = at;
-    let mut j = 0;
-    while j < count {
-        let from = STEP_SIZE * j;
-        let place = record_line(out, end, &steps[from..from + STEP_SIZE], Sort::Step, j);
-        let Place::Ends(next) = place else {
-            return Place::NoText;
-        };
-        end = next;
-        j += 1;
-    }
-    Place::Ends(end)
-}
-
-// A node's line, and those of its steps.
-fn node_lines(out: &mut [u8], at: usize, bytes: &[u8], steps: &[u8], i: usize) -> Place
-    requires { ⌜ (length (now bytes) ≡ size node) × (stepSize * countIn node (now bytes) ≤ length (now steps)) ⌝ }
-    ensures { λ r. ⌜
-        Laid (both (recordText node i (now (bytes .entry))) (stepsText (countIn node (now (bytes .entry))) 0 (now (steps .entry))))
-        (now (out .entry)) at (now (out .exit)) r
-        ⌝ }
-{
-    let place = record_line(out, at, bytes, Sort::Node, i);
-    let Place::Ends(end) = place else {
-        return Place::NoText;
-    };
-    step_lines(out, end, steps, counted(bytes, Sort::Node) as usize)
-}
-
-// Every record's line. A node's steps are the next ones that no node before it has.
-pub fn all_lines(out: &mut [u8], nodes: &[u8], steps: &[u8]) -> Place
-    ensures { λ r. ⌜ Laid (printed (now (nodes .entry)) (now (steps .entry))) (now (out .entry)) 0 (now (out .exit)) r ⌝ }
-{
-    let count = nodes.len() / NODE_SIZE;
-    let mut end = 0;
-    let mut first = 0;
-    let mut i = 0;
-    while i < count {
-        let from = NODE_SIZE * i;
-        let node = &nodes[from..from + NODE_SIZE];
-        let length = STEP_SIZE * counted(node, Sort::Node) as usize;
-        if steps.len() - first < length {
-            return Place::NoText;
-        }
-        let place = node_lines(out, end, node, &steps[first..], i);
-        let Place::Ends(next) = place else {
-            return Place::NoText;
-        };
-        end = next;
-        first += length;
-        i += 1;
-    }
-    if NODE_SIZE * count < nodes.len() {
-        return Place::NoText;
-    }
-    if first < steps.len() {
-        return Place::NoText;
-    }
-    Place::Ends(end)
+    bytes_line(out, at, bytes, sort, i)
 }

@@ -1,47 +1,23 @@
--- How long a text may be: 240 bytes for each record.
-use Prim.Native.Nat.{ℕ, zero, suc, _+_, _*_, _/_, _≤_, _<_}
-use Prim.Native.Char.{code}
+-- How long a text may be: 240 bytes for each record, and 20 for a remark.
+use Prim.Native.Nat.{ℕ, zero, suc, _+_, _*_, _/_, _≤_, _<_, min}
 use native.Mathlib.Omega.{arith}
-use mathlib.Core.Path.{_≡_, refl, sym, ap, _∙_, subst}
-use mathlib.Core.Bool.{Bool, true, false, _&&_, not}
+use mathlib.Core.Path.{_≡_, refl, subst}
+use mathlib.Core.Bool.{Bool, true, false, _&&_}
 use mathlib.Core.List.{List, [], _∷_, _++_}
 use mathlib.Core.Option.{Option, none, some}
-use lib.Dec.{T, eqb, ltb, leb, leb→le, lit≤}
-use lib.ListN.{length, getD, take, drop, length-append, length-drop}
-use borrow.Author.Tests.{ltb-true, ltb-false}
-use Rattle.actions.specs.Sets.{ActionSet, has}
+use lib.Dec.{T, eqb, leb, leb→le, lit≤}
+use lib.ListN.{length, getD, take, drop, length-append, length-take, length-drop}
 use Rattle.actions.proofs.Tests.{of-yes, and-left, and-right}
-use Rattle.spec_policy.specs.Bytes.{Bytes}
+use Rattle.spec_policy.specs.Bytes.{Bytes, Small}
 use Rattle.spec_policy.specs.Lists.{every}
-use Rattle.spec_text.specs.Words.{ascii, sameBytes, newline, space}
+use Rattle.spec_policy.proofs.ByteLaws.{small-take, small-drop}
+use Rattle.spec_text.specs.Words.{ascii, sameBytes, newline}
 use Rattle.spec_text.specs.Numerals.{decimal}
 use Rattle.spec_text.specs.Forms.{Sort, node, step, size, Fields, fieldsIn, recordOf, Slot, number, actions, place, bound, Form, forms, ofKind, sameSort, bare}
-use Rattle.spec_text.specs.Printing.{Print, text, noText, both, listing, spaced, argument, arguments, indent, remark, lineText, said, countIn, says, printedIf, recordText, stepsText, nodesText, printed}
+use Rattle.spec_text.specs.Printing.{Print, text, noText, argument, arguments, indent, title, lineText, said, countIn, says, printedIf, recordText, parted, bytesText, shownRecord, shownSteps, stepsHad, shownLeft, shownNodes, shownRecords}
 use Rattle.spec_text.proofs.TableLaws.{first-passes}
-use Rattle.text_append.specs.Added.{led}
-use Rattle.text_append.proofs.AddedLaws.{decimal-below, member-none, member-first, member-next, members-next}
-use Rattle.text_lines.proofs.LaidLaws.{both-none, steps-short}
-
--- ---- numbers and sets
-
-member-less : (f : Bool) (v : ActionSet) (a : ℕ) → a < 100 → length (led f (listing v a 1)) ≤ 3
-member-less f v a h = go f refl (has v a) refl
-  where
-    d : length (decimal a) ≤ 2
-    d = decimal-below 1 a h
-
-    go : (g : Bool) → f ≡ g → (b : Bool) → has v a ≡ b → length (led f (listing v a 1)) ≤ 3
-    go g p false e = subst (λ (w : Bytes). length w ≤ 3) (member-none f v a e) (omega arith)
-    go true p true e = subst (λ (w : Bytes). length w ≤ 3) (member-first f v a e p) (omega (arith, d))
-    go false p true e = subst (λ (w : Bytes). length w ≤ 3) (member-next f v a e p) (omega (arith, d))
-
-members-less : (f : Bool) (v : ActionSet) (a n : ℕ) → a + n ≤ 100 → length (led f (listing v a n)) ≤ 3 * n
-unfolding listing led spaced
-members-less true v a zero h = omega arith
-members-less false v a zero h = omega arith
-members-less f v a (suc n) h =
-    subst (λ (w : Bytes). length w ≤ 3 * suc n) (members-next f v a n)
-    (simp length-append (omega (arith, member-less f v a (omega arith), members-less (f && not (has v a)) v (suc a) n (omega arith))))
+use Rattle.text_append.proofs.AddedLaws.{decimal-below}
+use Rattle.text_append.proofs.Lengths.{set-less}
 
 -- ---- what a line says
 
@@ -61,19 +37,8 @@ tenDigits (actions i) = true
 ten-less : (most v : ℕ) → most ≤ 4_294_967_295 → v ≤ most → suc (length (decimal v)) ≤ 11
 ten-less most v h l = let a : v < 10_000_000_000 = omega arith in let d : length (decimal v) ≤ 10 = decimal-below 9 v a in omega arith
 
-in-braces : (w : Bytes) → length w ≤ 192 → length (space ∷ code "{" ∷ (w ++ (code "}" ∷ []))) ≤ 195
-in-braces w h = simp length-append (omega arith)
-
-all-members-less : (v : ActionSet) → length (spaced (listing v 0 64)) ≤ 192
-unfolding led
-all-members-less v = members-less true v 0 64 (lit≤ tt)
-
-set-less : (v : ActionSet) → length (argument (actions 0) v) ≤ 195
-unfolding argument
-set-less v = in-braces (spaced (listing v 0 64)) (all-members-less v)
-
 argument-less : (p : Slot) (v : ℕ) → T (tenDigits p) → v ≤ bound p → length (argument p v) ≤ slotMost p
-unfolding argument slotMost tenDigits bound led
+unfolding argument slotMost tenDigits bound
 argument-less (number i most) v t h = ten-less most v (leb→le most 4_294_967_295 t) h
 argument-less (actions i) v t h = set-less v
 
@@ -97,10 +62,10 @@ form-brief : (s : Sort) (k : ℕ) (f : Form) → ofKind s k ≡ some f → T (br
 unfolding ofKind forms every brief tenDigits slotsMost slotMost ascii
 form-brief s k f e = first-passes (λ g. sameSort (g .sort) s && eqb (g .kind) k) brief f forms tt e
 
-ends-less : (s : Sort) → (length (indent s) ≤ 2) × (length (remark s) ≤ 9)
-unfolding indent remark ascii
-ends-less node = (lit≤ tt, lit≤ tt)
-ends-less step = (lit≤ tt, lit≤ tt)
+ends-less : (s : Sort) → (length (indent s) ≤ 2) × (length (title s) ≤ 7) × (length (ascii "  ") ≤ 2)
+unfolding indent title ascii
+ends-less node = (lit≤ tt, lit≤ tt, lit≤ tt)
+ends-less step = (lit≤ tt, lit≤ tt, lit≤ tt)
 
 module _ (s : Sort) (i : ℕ) (bs : Bytes) (few : i < 1000) where
   line-less : (f : Form) → T (brief f) → T (says s f bs) → length (lineText s f (fieldsIn s bs) i ++ (newline ∷ [])) ≤ 240
@@ -114,7 +79,7 @@ module _ (s : Sort) (i : ℕ) (bs : Bytes) (few : i < 1000) where
       let t = and-left (every tenDigits (f .slots)) (leb n 222) b in
       let m = leb→le n 222 (and-right (every tenDigits (f .slots)) (leb n 222) b) in
       let e = ends-less s in
-      simp length-append (omega (arith, arguments-less (f .slots) (fieldsIn s bs) t fit, decimal-below 2 i few, m, e .0, e .1))
+      simp length-append (omega (arith, arguments-less (f .slots) (fieldsIn s bs) t fit, decimal-below 2 i few, m, e .0, e .1, e .2))
 
   record-less : (t : Bytes) → recordText s i bs ≡ text t → length t ≤ 240
   unfolding recordText printedIf
@@ -130,55 +95,60 @@ module _ (s : Sort) (i : ℕ) (bs : Bytes) (few : i < 1000) where
       go none h = let u : noText ≡ text t = rw (recordText, h) at e in let z : _≡_ {A = ℕ} 0 1 = cc in absurd (omega arith)
       go (some f) h = told f (form-brief s (getD bs 0 0) f h) (says s f bs) refl (rw (recordText, h) at e)
 
+-- ---- a record's bytes
+
+parted-less : (bs : Bytes) → Small bs → length (parted bs) ≤ 4 * length bs
+unfolding parted
+parted-less [] small = omega arith
+parted-less (b ∷ bs) small =
+    let d : length (decimal b) ≤ 3 = decimal-below 2 b (omega (arith, small 0)) in
+    simp length-append (omega (arith, d, parted-less bs (λ i. small (suc i))))
+
+module _ (s : Sort) (i : ℕ) (bs : Bytes) (few : i < 1000) (small : Small bs) (whole : length bs ≤ 16) where
+  bytes-less : length (bytesText s i bs) ≤ 240
+  unfolding bytesText ascii
+  bytes-less =
+      let e = ends-less s in
+      simp length-append (omega (arith, decimal-below 2 i few, parted-less bs small, whole, e .0, e .1))
+
+  shown-less : length (shownRecord s i bs) ≤ 240
+  unfolding shownRecord
+  shown-less = go (recordText s i bs) refl
+    where
+      go : (p : Print) → recordText s i bs ≡ p → length (shownRecord s i bs) ≤ 240
+      go (text t) e = rw (shownRecord, e) (record-less s i bs few t e)
+      go noText e = rw (shownRecord, e) bytes-less
+
 -- ---- all records
 
--- both parts are texts, of lengths that are joined
-both-less : (p q : Print) (t : Bytes) (m n : ℕ) → both p q ≡ text t → ((u : Bytes) → p ≡ text u → length u ≤ m) → ((u : Bytes) → q ≡ text u → length u ≤ n) → length t ≤ m + n
-unfolding both
-both-less (text x) (text y) t m n e f g =
-    let w : x ++ y ≡ t = cc in
-    subst (λ (z : Bytes). length z ≤ m + n) w (simp length-append (omega (arith, f x refl, g y refl)))
-both-less (text x) noText t m n e f g = let z : _≡_ {A = ℕ} 0 1 = cc in absurd (omega arith)
-both-less noText q t m n e f g = let z : _≡_ {A = ℕ} 0 1 = cc in absurd (omega arith)
+steps-less : (n j : ℕ) (ss : Bytes) → Small ss → j + n ≤ 1000 → length (shownSteps n j ss) ≤ 240 * n
+unfolding shownSteps size
+steps-less zero j ss small h = omega arith
+steps-less (suc n) j ss small h =
+    let a = shown-less step j (take 12 ss) (omega arith) (small-take 12 ss small) (simp length-take (omega arith)) in
+    let b = steps-less n (suc j) (drop 12 ss) (small-drop 12 ss small) (omega arith) in
+    simp length-append (omega (arith, a, b))
 
-steps-less : (n j : ℕ) (ss t : Bytes) → j + n ≤ 1000 → stepsText n j ss ≡ text t → length t ≤ 240 * n
-unfolding stepsText
-steps-less zero j ss t h e = let q : [] ≡ t = cc in subst (λ (z : Bytes). length z ≤ 0) q (omega arith)
-steps-less (suc n) j ss t h e =
-    let r = both-less (recordText step j (take (size step) ss)) (stepsText n (suc j) (drop (size step) ss)) t 240 (240 * n) e
-    (record-less step j (take (size step) ss) (omega arith)) (λ u f. steps-less n (suc j) (drop (size step) ss) u (omega arith) f) in
-    omega (arith, r)
+left-less : (n j : ℕ) (ss : Bytes) → Small ss → j + n ≤ 1000 → length (shownLeft n j ss) ≤ 240 * n + 20
+unfolding shownLeft ascii
+left-less zero j ss small h = omega arith
+left-less (suc n) j ss small h = simp length-append (omega (arith, steps-less (suc n) j ss small h))
 
-nodes-less : (n i : ℕ) (ns ss t : Bytes) → i + n ≤ 1000 → length ss ≤ 12_000 → nodesText n i ns ss ≡ text t → length t ≤ 240 * n + 20 * length ss
-unfolding nodesText size both
-nodes-less zero i [] [] t h l e = let q : [] ≡ t = cc in subst (λ (z : Bytes). length z ≤ 0) q (omega arith)
-nodes-less zero i [] (s ∷ ss) t h l e = let z : _≡_ {A = ℕ} 0 1 = cc in absurd (omega arith)
-nodes-less zero i (b ∷ ns) ss t h l e = let z : _≡_ {A = ℕ} 0 1 = cc in absurd (omega arith)
-nodes-less (suc n) i ns ss t h l e =
+nodes-less : (n i j : ℕ) (ns ss : Bytes) → Small ns → Small ss → i + n ≤ 1000 → j + length ss / 12 ≤ 1000
+    → length (shownNodes n i j ns ss) ≤ 240 * n + 240 * (length ss / 12) + 20
+unfolding shownNodes stepsHad size
+nodes-less zero i j ns ss sn sm h l = omega (arith, left-less (length ss / 12) j ss sm l)
+nodes-less (suc n) i j ns ss sn sm h l =
     let x : Bytes = take 16 ns in
-    let c : ℕ = countIn node x in
-    let rest : Print = nodesText n (suc i) (drop 16 ns) (drop (12 * c) ss) in
-    let after : ℕ = 240 * n + 20 * length (drop (12 * c) ss) in
-    go (ltb (length ss) (12 * c)) refl
-    (λ k. both-less (recordText node i x) (both (stepsText c 0 ss) rest) t 240 (240 * c + after) e (record-less node i x (omega arith))
-    (λ u f. both-less (stepsText c 0 ss) rest u (240 * c) after f (λ v g. steps-less c 0 ss v (omega arith) g)
-    (λ v g. nodes-less n (suc i) (drop 16 ns) (drop (12 * c) ss) v (omega arith) (simp length-drop (omega arith)) g)))
-  where
-    count : ℕ
-    count = countIn node (take 16 ns)
+    let k : ℕ = min (countIn node x) (length ss / 12) in
+    let e = length-drop (12 * k) ss in
+    let a = shown-less node i x (omega arith) (small-take 16 ns sn) (simp length-take (omega arith)) in
+    let b = steps-less k 0 ss sm (omega arith) in
+    let c = nodes-less n (suc i) (j + k) (drop 16 ns) (drop (12 * k) ss) (small-drop 16 ns sn) (small-drop (12 * k) ss sm) (omega arith) (omega arith) in
+    simp length-append (omega (arith, a, b, c, e))
 
-    go : (b : Bool) → ltb (length ss) (12 * count) ≡ b → (12 * count ≤ length ss → length t ≤ 240 + (240 * count + (240 * n + 20 * length (drop (12 * count) ss))))
-        → length t ≤ 240 * suc n + 20 * length ss
-    go true b r =
-        let s : stepsText count 0 ss ≡ noText = steps-short count 0 ss (ltb-true (length ss) (12 * count) b) in
-        let u : noText ≡ text t =
-        sym (ap (λ (p : Print). both (recordText node i (take 16 ns)) (both p (nodesText n (suc i) (drop 16 ns) (drop (12 * count) ss)))) s ∙ both-none (recordText node i (take 16 ns))) ∙ e in
-        let z : _≡_ {A = ℕ} 0 1 = cc in absurd (omega arith)
-    go false b r =
-        let k : 12 * count ≤ length ss = ltb-false (length ss) (12 * count) b in
-        omega (arith, r k, length-drop (12 * count) ss)
-
--- No text is longer than 240 bytes for each record.
-pub printed-less : (ns ss t : Bytes) → length ns ≤ 16_000 → length ss ≤ 12_000 → printed ns ss ≡ text t → length t ≤ 240 * (length ns / 16) + 20 * length ss
-unfolding printed size
-printed-less ns ss t h l e = nodes-less (length ns / 16) 0 ns ss t (omega arith) l e
+-- No text is longer than 240 bytes for each record, and a remark.
+pub records-less : (ns ss : Bytes) → Small ns → Small ss → length ns ≤ 16_000 → length ss ≤ 12_000
+    → length (shownRecords ns ss) ≤ 240 * (length ns / 16) + 240 * (length ss / 12) + 20
+unfolding shownRecords size
+records-less ns ss sn sm h l = nodes-less (length ns / 16) 0 0 ns ss sn sm (omega arith) (omega arith)

@@ -1,2 +1,2 @@
-pub mod PrintLaws
+mod PrintLaws
 pub mod Lengths

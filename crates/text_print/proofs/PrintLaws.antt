@@ -1,69 +1,89 @@
--- Text measured on no room, and then written.
-use Prim.Native.Nat.{ℕ, _≤_, _<_}
+-- Lines one after another: of steps, and of nodes with their steps.
+use Prim.Native.Nat.{ℕ, zero, suc, _+_, _-_, _*_, _/_, _≤_, _<_, min}
 use native.Mathlib.Omega.{arith}
-use mathlib.Core.Path.{_≡_, refl, ap, subst₂}
-use mathlib.Core.Bool.{Bool, true, false}
-use mathlib.Core.List.{[], _∷_, _++_}
-use lib.Dec.{leb}
-use lib.ListN.{length}
-use borrow.Author.Tests.{le-leb, lt-leb, leb-true}
+use mathlib.Core.Path.{_≡_, sym, ap, ap₂, _∙_}
+use mathlib.Core.List.{[], _++_}
+use lib.ListN.{length, take, drop, length-drop}
+use lib.Seq.{drop-drop}
 use Rattle.spec_policy.specs.Bytes.{Bytes}
-use Rattle.spec_text.specs.Printing.{Print, text, noText}
-use Rattle.text_print.specs.declared.Printed.the-variants.{Text, NoText, Short}
-use Rattle.text_lines.specs.declared.Place.{Place}
-use Rattle.text_lines.specs.declared.Place.the-variants.{Ends}
-use Rattle.text_lines.specs.declared.Place.the-variants as place
-use Rattle.text_append.specs.Added.{limit, Added}
-use Rattle.text_append.proofs.AddedLaws.{ends-at, fits}
-use Rattle.text_lines.specs.Laid.{laid, Laid}
-use Rattle.text_print.specs.Printing.{given, Gave}
+use Rattle.spec_text.specs.Words.{ascii}
+use Rattle.spec_text.specs.Forms.{node, step, size}
+use Rattle.spec_text.specs.Printing.{countIn, shownRecord, shownSteps, stepsHad, shownLeft, shownNodes}
 
--- no room laid back before the buffer
-pub none-back : (ys out : Bytes) → length ys ≡ 0 → ys ++ out ≡ out
-none-back [] out e = refl
-none-back (y ∷ ys) out e = absurd (omega arith)
+-- the steps from the j-th on, as the code counts them
+abbrev pub stepsFrom : ℕ → Bytes → Bytes
+stepsFrom j ss = drop (12 * j) ss
 
--- a text that was put at the beginning, with room for it
-pub given-text : {t before after : Bytes} {end : ℕ} → Added before 0 t after end → length t ≤ length before → Gave (given (text t) before) (Text end) after
-unfolding given
-given-text {t} {before} {after} {end} p h =
-    let f = fits p (omega arith) in
-    let n : end ≡ length t = omega (arith, f .1) in
-    rw (given, le-leb (length t) (length before) h) (record { answer = ap Text n; out = f .0 })
+further : (j k : ℕ) (ss : Bytes) → stepsFrom (j + k) ss ≡ drop (12 * k) (stepsFrom j ss)
+further j k ss = let e : 12 * (j + k) ≡ 12 * j + 12 * k = omega arith in ap (λ (n : ℕ). drop n ss) e ∙ sym (drop-drop (12 * k) (12 * j) ss)
 
--- measured: where the text ends; and the buffer as it was then
-pub gave-none : (p : Print) {out back before after : Bytes} → back ≡ out → Laid p before 0 after place.NoText → Gave (given p out) NoText back
-unfolding given laid
-gave-none (text t) e l = absurd (l .is)
-gave-none noText e l = record { answer = refl; out = e }
+-- ---- the j-th step, and those after it
 
-pub gave-short : (p : Print) {out back before after : Bytes} {n : ℕ} → back ≡ out → Laid p before 0 after (Ends n) → length back < n → Gave (given p out) Short back
-unfolding given laid
-gave-short (text t) {out} {back} e l h =
-    let m : length back ≡ length out = ap length e in
-    rw (given, lt-leb (length t) (length out) (omega (arith, ends-at (l .is) (omega arith)))) (record { answer = refl; out = e })
-gave-short noText e l h = absurd (l .is)
+module _ (next j base : ℕ) (ss : Bytes) where
+  pub steps-next : base ≤ j → j < next
+      → shownRecord step (j - base) (take (12 * j + 12 - 12 * j) (stepsFrom j ss)) ++ shownSteps (next - (j + 1)) (j + 1 - base) (stepsFrom (j + 1) ss)
+      ≡ shownSteps (next - j) (j - base) (stepsFrom j ss)
+  unfolding shownSteps size
+  steps-next b h =
+      let e : 12 * j + 12 - 12 * j ≡ 12 = omega arith in
+      let a : suc (next - (j + 1)) ≡ next - j = omega arith in
+      let d : j + 1 - base ≡ suc (j - base) = omega arith in
+      ap₂ (λ (k : ℕ) (x : Bytes). shownRecord step (j - base) (take k (stepsFrom j ss)) ++ x) e (ap₂ (shownSteps (next - (j + 1))) d (further j 1 ss))
+      ∙ ap (λ (k : ℕ). shownSteps k (j - base) (stepsFrom j ss)) a
 
--- and then written
-pub gave-text : (p : Print) {out back before after last : Bytes} {n : ℕ} {r : Place} → back ≡ out → Laid p before 0 after (Ends n) → n ≤ length back → length out < limit → Laid p back 0 last r → Gave (given p out) (Text n) last
-unfolding given laid
-gave-text (text t) {out} {back} {last = last} {n = n} {r = Ends i} e l h k w =
-    let m : length back ≡ length out = ap length e in
-    let q : n ≡ length t = omega (arith, ends-at (l .is) (omega arith)) in
-    let j : i ≡ n = omega (arith, fits (w .is) (omega arith) .1) in
-    subst₂ (λ (y : ℕ) (z : Bytes). Gave (given (text t) z) (Text y) last) j e (given-text (w .is) (omega arith))
-gave-text (text t) {r = place.NoText} e l h k w = absurd (w .is)
-gave-text noText e l h k w = absurd (l .is)
+  pub steps-over : next ≤ j → [] ≡ shownSteps (next - j) (j - base) (stepsFrom j ss)
+  unfolding shownSteps
+  steps-over h = let a : 0 ≡ next - j = omega arith in ap (λ (k : ℕ). shownSteps k (j - base) (stepsFrom j ss)) a
 
--- ---- for a caller
+-- ---- the steps that are left
 
-pub text-inside : (p : Print) (before : Bytes) {after : Bytes} {n : ℕ} → Gave (given p before) (Text n) after → n ≤ length before
-unfolding given
-text-inside (text t) before {n = n} g = go (leb (length t) (length before)) refl
-  where
-    go : (b : Bool) → leb (length t) (length before) ≡ b → n ≤ length before
-    go true e =
-        let f : Text n ≡ Text (length t) = rw (given, e) at (g .answer) in
-        let m : n ≡ length t = cc in omega (arith, leb-true (length t) (length before) e)
-    go false e = let f : Text n ≡ Short = rw (given, e) at (g .answer) in let z : _≡_ {A = ℕ} 0 1 = cc in absurd (omega arith)
-text-inside noText before g = let f = g .answer in let z : _≡_ {A = ℕ} 0 1 = cc in absurd (omega arith)
+module _ (first : ℕ) (ss : Bytes) where
+  pub left-none : first ≡ length ss / 12 → [] ≡ shownLeft (length ss / 12 - first) first (stepsFrom first ss)
+  unfolding shownLeft
+  left-none h = let a : 0 ≡ length ss / 12 - first = omega arith in ap (λ (k : ℕ). shownLeft k first (stepsFrom first ss)) a
+
+  pub left-some : first < length ss / 12
+      → ascii "# steps of no leaf\n" ++ shownSteps (length ss / 12 - first) (first - 0) (stepsFrom first ss) ≡ shownLeft (length ss / 12 - first) first (stepsFrom first ss)
+  unfolding shownLeft
+  left-some h = go (length ss / 12 - first) (omega arith)
+    where
+      go : (k : ℕ) → 0 < k → ascii "# steps of no leaf\n" ++ shownSteps k (first - 0) (stepsFrom first ss) ≡ shownLeft k first (stepsFrom first ss)
+      go zero l = absurd (omega arith)
+      go (suc k) l = let z : first - 0 ≡ first = omega arith in ap (λ (j : ℕ). ascii "# steps of no leaf\n" ++ shownSteps (suc k) j (stepsFrom first ss)) z
+
+-- ---- the i-th node with its steps, and what follows
+
+-- its record, as the code lends it
+abbrev pub nodeIn : ℕ → Bytes → Bytes
+nodeIn i ns = take (16 * i + 16 - 16 * i) (drop (16 * i) ns)
+
+module _ (n i first c k : ℕ) (ns ss : Bytes) (h : i < n) (e : c ≡ countIn node (nodeIn i ns)) (m : k ≡ min c (length ss / 12 - first)) where
+  had : stepsHad (nodeIn i ns) (stepsFrom first ss) ≡ k
+  unfolding stepsHad size
+  had = omega (arith, length-drop (12 * first) ss)
+
+  pub nodes-next : shownRecord node i (nodeIn i ns)
+      ++ (shownSteps (first + k - first) (first - first) (stepsFrom first ss) ++ shownNodes (n - (i + 1)) (i + 1) (first + k) (drop (16 * (i + 1)) ns) (stepsFrom (first + k) ss))
+      ≡ shownNodes (n - i) i first (drop (16 * i) ns) (stepsFrom first ss)
+  unfolding shownNodes size
+  nodes-next =
+      let a : suc (n - (i + 1)) ≡ n - i = omega arith in
+      let b : i + 1 ≡ suc i = omega arith in
+      let d : 16 * (i + 1) ≡ 16 * i + 16 = omega arith in
+      let f : 16 * i + 16 - 16 * i ≡ 16 = omega arith in
+      let z : first - first ≡ 0 = omega arith in
+      let g : first + k - first ≡ k = omega arith in
+      let q = ap (λ (l : ℕ). drop l ns) d ∙ sym (drop-drop 16 (16 * i) ns) in
+      ap₂ (λ (p j : ℕ). shownRecord node i (nodeIn i ns) ++ (shownSteps p j (stepsFrom first ss) ++ shownNodes (n - (i + 1)) (i + 1) (first + k) (drop (16 * (i + 1)) ns) (stepsFrom (first + k) ss))) g z
+      ∙ ap₂ (λ (p : ℕ) (x : Bytes). shownRecord node i (nodeIn i ns) ++ (shownSteps k 0 (stepsFrom first ss) ++ shownNodes (n - (i + 1)) p (first + k) x (stepsFrom (first + k) ss))) b q
+      ∙ ap (λ (x : Bytes). shownRecord node i (nodeIn i ns) ++ (shownSteps k 0 (stepsFrom first ss) ++ shownNodes (n - (i + 1)) (suc i) (first + k) (drop 16 (drop (16 * i) ns)) x)) (further first k ss)
+      ∙ ap (λ (p : ℕ). shownRecord node i (nodeIn i ns) ++ (shownSteps p 0 (stepsFrom first ss) ++ shownNodes (n - (i + 1)) (suc i) (first + p) (drop 16 (drop (16 * i) ns)) (drop (12 * p) (stepsFrom first ss)))) (sym had)
+      ∙ ap (λ (p : ℕ). let x = take p (drop (16 * i) ns) in shownRecord node i x ++ (shownSteps (stepsHad x (stepsFrom first ss)) 0 (stepsFrom first ss) ++ shownNodes (n - (i + 1)) (suc i) (first + stepsHad x (stepsFrom first ss)) (drop 16 (drop (16 * i) ns)) (drop (12 * stepsHad x (stepsFrom first ss)) (stepsFrom first ss)))) f
+      ∙ ap (λ (p : ℕ). shownNodes p i first (drop (16 * i) ns) (stepsFrom first ss)) a
+
+pub nodes-over : (n i first : ℕ) (ns ss : Bytes) → n ≤ i → shownLeft (length ss / 12 - first) first (stepsFrom first ss) ≡ shownNodes (n - i) i first (drop (16 * i) ns) (stepsFrom first ss)
+unfolding shownNodes size
+nodes-over n i first ns ss h =
+    let a : 0 ≡ n - i = omega arith in
+    let b : length ss / 12 - first ≡ length (stepsFrom first ss) / 12 = omega (arith, length-drop (12 * first) ss) in
+    ap (λ (k : ℕ). shownLeft k first (stepsFrom first ss)) b ∙ ap (λ (k : ℕ). shownNodes k i first (drop (16 * i) ns) (stepsFrom first ss)) a

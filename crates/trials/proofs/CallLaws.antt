@@ -1,21 +1,27 @@
 -- Laws of a call's parts: each lies after the one before, and what a reader of so many bytes may say.
 use Prim.Native.Nat.{ℕ, _+_, _-_, _≤_, _<_}
 use mathlib.Core.Path.{_≡_, refl, sym, ap, ap₂, subst, _∙_}
-use mathlib.Core.List.{_++_}
+use mathlib.Core.List.{[], _∷_, _++_}
 use native.Mathlib.Omega.{arith}
-use lib.ListN.{length, take, drop}
+use lib.ListN.{length, getD, take, drop}
 use lib.Seq.{take-at, take-length, take-append-seam, length-take-le}
 use borrow.Author.Tests.{eq-eqb, ne-eqb}
 use borrow.Rule.Slice.PartMut.{mid-len}
-use Rattle.spec_policy.specs.Bytes.{Bytes, number}
+use Rattle.spec_policy.specs.Bytes.{Bytes, number, spell}
+use Rattle.spec_policy.specs.Spots as spots
+use Rattle.spec_check.specs.Check.{Answer as Checked, passes}
 use Rattle.spec_turns.specs.Turn.{Request, opening, offer, close}
 use Rattle.spec_turns.specs.Entries.{entry}
 use Rattle.call_answer.specs.Replies.{Gave}
 use Rattle.call_answer.specs.declared.Answer.{Answer}
+use Rattle.call_answer.specs.declared.Answer.the-variants.{Refused}
+use Rattle.faults.specs.declared.Fault.{Fault}
+use Rattle.faults.specs.Meaning.{faultOf}
 use Rattle.spec_writer.specs.Writing as writing
 use Rattle.file_writer.specs.Replies as replies
 use Rattle.file_writer.specs.declared.Written.{Written}
-use Rattle.trials.specs.Calls.{fieldEnd, policyEnd, stateEnd, eventsEnd, longest, Placed, part, policyIn, stateIn, eventsIn, request, called, fileCalled, Found, Taken, replyBytes, Answers, sizeBytes, Wrote}
+use Rattle.file_writer.specs.declared.Written.the-variants as written
+use Rattle.trials.specs.Calls.{fieldEnd, policyEnd, stateEnd, eventsEnd, longest, Placed, part, policyIn, stateIn, eventsIn, request, called, fileCalled, Found, Taken, refusalBytes, noRefusal, answerBytes, replyBytes, Answers, sizeBytes, Wrote}
 use Rattle.trials.specs.declared.calls.Parts.{Parts}
 use Rattle.trials.specs.declared.calls.Call.{Call}
 use Rattle.trials.specs.declared.calls.Call.the-variants.{Whole, Short}
@@ -165,3 +171,20 @@ made-file bs c o o′ x reply n w p e f h g l r =
       reply = r ∙ ap sizeBytes (q .answer);
       out = front o′ x (c .events - (c .state + 2)) n (sym e) (l ∙ length-take-le n o h) ∙ q .out;
     }
+
+-- ---- a refusal's three bytes
+
+pub refused-reply : (f : Fault) (rs : Bytes) (a : Answer) → a ≡ Refused f → rs ≡ refusalBytes (faultOf f)
+    → (getD rs 0 0 ∷ getD rs 1 0 ∷ getD rs 2 0 ∷ 0 ∷ 0 ∷ 0 ∷ []) ≡ replyBytes a
+unfolding replyBytes refusalBytes spell
+refused-reply f rs a e h = ap (λ (xs : Bytes). getD xs 0 0 ∷ getD xs 1 0 ∷ getD xs 2 0 ∷ 0 ∷ 0 ∷ 0 ∷ []) h ∙ ap replyBytes (sym e)
+
+pub refused-size : (f : Fault) (rs : Bytes) (a : Written) → a ≡ written.Refused f → rs ≡ refusalBytes (faultOf f)
+    → (getD rs 0 0 ∷ getD rs 1 0 ∷ getD rs 2 0 ∷ 0 ∷ 0 ∷ []) ≡ sizeBytes a
+unfolding sizeBytes refusalBytes spell
+refused-size f rs a e h = ap (λ (xs : Bytes). getD xs 0 0 ∷ getD xs 1 0 ∷ getD xs 2 0 ∷ 0 ∷ 0 ∷ []) h ∙ ap sizeBytes (sym e)
+
+pub passed-bytes : (f : Fault) {r e : ℕ} (bs : Bytes) (a : Checked) → faultOf f ≡ noRefusal → bs ≡ refusalBytes (faultOf f) ++ (spell 8 r ++ spell 8 e) → passes r e ≡ a
+    → bs ≡ answerBytes a
+unfolding answerBytes
+passed-bytes f {r} {e} bs a z h p = h ∙ ap (λ (g : spots.Fault). refusalBytes g ++ (spell 8 r ++ spell 8 e)) z ∙ ap answerBytes p

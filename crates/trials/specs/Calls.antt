@@ -6,9 +6,11 @@ use mathlib.Core.List.{[], _∷_, _++_}
 use lib.Dec.{eqb}
 use lib.ListN.{length, take, drop}
 use Rattle.spec_policy.specs.Bytes.{Bytes, number, spell}
+use Rattle.spec_policy.specs.Spots.{Fault, bareFault}
 use Rattle.spec_check.specs.Check.{Answer, passes, refused}
 use Rattle.spec_turns.specs.Turn.{Request, opening, offer, close}
 use Rattle.spec_turns.specs.Entries.{Result, entry}
+use Rattle.faults.specs.Meaning.{faultOf, spotCode}
 use Rattle.call_answer.specs.Replies.{spoken}
 use Rattle.call_answer.specs.declared.Answer as guard
 use Rattle.call_answer.specs.declared.Answer.the-variants.{Answered, Refused}
@@ -92,25 +94,35 @@ unfoldable pub Taken : Bytes → Call → Type 0
 Taken bs (Whole c) = Placed bs c
 Taken bs (Short n) = Unit
 
--- "a refusal number (0 if none), the regulated set and the effect set (zeros if refused)"
-unfoldable pub answerBytes : Answer → Bytes
-answerBytes (passes r e) = 0 ∷ (spell 8 r ++ spell 8 e)
-answerBytes (refused n) = n ∷ (spell 8 0 ++ spell 8 0)
+-- a refusal number (1; 0 if there is none), and the number of the record that it is about, counted from 1 (2; 0 if there is none)
+unfoldable pub refusalBytes : Fault → Bytes
+refusalBytes f = f .number ∷ spell 2 (spotCode (f .spot))
 
--- "refusal (1), events (2), status (1), state buffer, event buffer"
+abbrev pub noRefusal : Fault
+noRefusal = bareFault 0
+
+-- the refusal, the regulated set and the effect set (zeros if refused)
+unfoldable pub answerBytes : Answer → Bytes
+unfolding refusalBytes
+answerBytes (passes r e) = refusalBytes noRefusal ++ (spell 8 r ++ spell 8 e)
+answerBytes (refused f) = refusalBytes f ++ (spell 8 0 ++ spell 8 0)
+
+-- the refusal, events (2), status (1); after them state buffer and event buffer
 unfoldable pub replyBytes : guard.Answer → Bytes
-replyBytes (Answered n s) = 0 ∷ (spell 2 n ++ (s ∷ []))
-replyBytes (Refused n) = n ∷ 0 ∷ 0 ∷ 0 ∷ []
+unfolding refusalBytes
+replyBytes (Answered n s) = refusalBytes noRefusal ++ (spell 2 n ++ (s ∷ []))
+replyBytes (Refused f) = refusalBytes (faultOf f) ++ (0 ∷ 0 ∷ 0 ∷ [])
 
 pub record Answers (x : Result) (r saved room : Bytes) : Type 0 where
   pub reply : r ≡ replyBytes (spoken (x .reply))
   pub state : saved ≡ x .state
   pub events : room ≡ x .events
 
--- "refusal (1), length (2), output"
+-- the refusal, length (2); after them the output
 unfoldable pub sizeBytes : Written → Bytes
-sizeBytes (written.Wrote n) = 0 ∷ spell 2 n
-sizeBytes (written.Refused n) = n ∷ 0 ∷ 0 ∷ []
+unfolding refusalBytes
+sizeBytes (written.Wrote n) = refusalBytes noRefusal ++ spell 2 n
+sizeBytes (written.Refused f) = refusalBytes (faultOf f) ++ (0 ∷ 0 ∷ [])
 
 pub record Wrote (x : writing.Result) (r room : Bytes) : Type 0 where
   pub reply : r ≡ sizeBytes (replies.spoken (x .reply))

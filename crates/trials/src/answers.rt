@@ -3,28 +3,48 @@ ghost use mathlib.Core.Path.{_≡_};
 ghost use Prim.Native.Nat.{_+_, _-_, _≤_};
 ghost use lib.ListN.{length, take};
 ghost use Rattle.spec_check.specs.Check.{check};
-ghost use mathlib.Core.List.{_∷_, _++_};
+ghost use mathlib.Core.List.{_++_};
 ghost use Rattle.spec_policy.specs.Bytes.{spell};
 ghost use Rattle.spec_turns.specs.Entries.{entry};
 ghost use Rattle.call_answer.specs.Replies.{Gave};
+ghost use Rattle.faults.specs.Meaning.{faultOf};
 ghost use Rattle.trials.specs.Calls.{longestField, Placed, part, policyIn, request, called, fileCalled};
-ghost use Rattle.trials.specs.Calls.{answerBytes, replyBytes, sizeBytes, Answers, Wrote};
+ghost use Rattle.trials.specs.Calls.{refusalBytes, answerBytes, replyBytes, sizeBytes, Answers, Wrote};
 use crate::calls::Parts;
 use call_answer::Answer;
 use check_policy::Checked;
 use check_policy::check;
+use faults::Fault;
+use faults::bare_fault;
+use faults::spot_code;
 use file_writer::Written;
 use file_writer::write;
 use guard::close;
 use guard::offer;
 use guard::open;
 
-// A refusal number and two sets, the highest byte first.
-fn spell(refusal: u8, x: u64, y: u64) -> [u8; 17]
-    ensures { λ r. ⌜ r ≡ refusal ∷ (spell 8 x ++ spell 8 y) ⌝ }
+// A refusal's number and which record it is about, counted from 1, the highest byte first.
+fn refusal_bytes(fault: Fault) -> [u8; 3]
+    ensures { λ r. ⌜ r ≡ refusalBytes (faultOf fault) ⌝ }
 {
+    let spot = fault.spot;
+    let code = spot_code(spot);
     [
-        refusal,
+        fault.number,
+        ((code >> 8) % 256) as u8,
+        ((code >> 0) % 256) as u8,
+    ]
+}
+
+// A refusal and two sets, the highest byte first.
+fn spell(fault: Fault, x: u64, y: u64) -> [u8; 19]
+    ensures { λ r. ⌜ r ≡ refusalBytes (faultOf fault) ++ (spell 8 x ++ spell 8 y) ⌝ }
+{
+    let refusal = refusal_bytes(fault);
+    [
+        refusal[0],
+        refusal[1],
+        refusal[2],
         ((x >> 56) % 256) as u8,
         ((x >> 48) % 256) as u8,
         ((x >> 40) % 256) as u8,
@@ -45,18 +65,18 @@ fn spell(refusal: u8, x: u64, y: u64) -> [u8; 17]
 }
 
 // What the check answers about a policy, in bytes.
-fn check_bytes(policy: &[u8]) -> [u8; 17]
+fn check_bytes(policy: &[u8]) -> [u8; 19]
     ensures { λ r. ⌜ r ≡ answerBytes (check (now (policy .entry))) ⌝ }
 {
     let c = check(policy);
     match c {
-        Checked::Passed(regulated, effects) => spell(0, regulated.bits, effects.bits),
-        Checked::Refused(n) => spell(n, 0, 0),
+        Checked::Passed(regulated, effects) => spell(bare_fault(0), regulated.bits, effects.bits),
+        Checked::Refused(fault) => spell(fault, 0, 0),
     }
 }
 
 // The same about the policy of a call.
-pub fn policy_answer(batch: &[u8], parts: Parts) -> [u8; 17]
+pub fn policy_answer(batch: &[u8], parts: Parts) -> [u8; 19]
     requires { ⌜ Placed (now batch) parts ⌝ }
     ensures { λ r. ⌜ r ≡ answerBytes (check (policyIn (now (batch .entry)))) ⌝ }
 {
@@ -65,17 +85,22 @@ pub fn policy_answer(batch: &[u8], parts: Parts) -> [u8; 17]
 }
 
 // An answer of the other entry points, the event count's highest byte first.
-fn reply_bytes(answer: Answer) -> [u8; 4]
+fn reply_bytes(answer: Answer) -> [u8; 6]
     ensures { λ r. ⌜ r ≡ replyBytes answer ⌝ }
 {
     match answer {
         Answer::Answered(count, status) => [
             0,
+            0,
+            0,
             ((count >> 8) % 256) as u8,
             ((count >> 0) % 256) as u8,
             status,
         ],
-        Answer::Refused(n) => [n, 0, 0, 0],
+        Answer::Refused(fault) => {
+            let refusal = refusal_bytes(fault);
+            [refusal[0], refusal[1], refusal[2], 0, 0, 0]
+        }
     }
 }
 
@@ -99,7 +124,7 @@ fn load(batch: &[u8], from: usize, to: usize, buffer: &mut [u8]) -> usize
 }
 
 // Makes the call on copies of its two buffers, which are left at the start of `state` and of `events`.
-pub fn call_answer(batch: &[u8], parts: Parts, state: &mut [u8], events: &mut [u8]) -> [u8; 4]
+pub fn call_answer(batch: &[u8], parts: Parts, state: &mut [u8], events: &mut [u8]) -> [u8; 6]
     requires { ⌜ Placed (now batch) parts × (longestField ≤ length (now state)) × (longestField ≤ length (now events)) ⌝ }
     ensures { λ r. ⌜ Answers (called (now (batch .entry))) r
         (take (parts .state - (parts .policy + 2)) (now (state .exit)))
@@ -121,17 +146,26 @@ pub fn call_answer(batch: &[u8], parts: Parts, state: &mut [u8], events: &mut [u
 }
 
 // An answer of the writer, the length's highest byte first.
-fn size_bytes(written: Written) -> [u8; 3]
+fn size_bytes(written: Written) -> [u8; 5]
     ensures { λ r. ⌜ r ≡ sizeBytes written ⌝ }
 {
     match written {
-        Written::Wrote(length) => [0, ((length >> 8) % 256) as u8, ((length >> 0) % 256) as u8],
-        Written::Refused(n) => [n, 0, 0],
+        Written::Wrote(length) => [
+            0,
+            0,
+            0,
+            ((length >> 8) % 256) as u8,
+            ((length >> 0) % 256) as u8,
+        ],
+        Written::Refused(fault) => {
+            let refusal = refusal_bytes(fault);
+            [refusal[0], refusal[1], refusal[2], 0, 0]
+        }
     }
 }
 
 // Calls the writer on a copy of the call's output, which is left at the start of `out`.
-pub fn file_answer(batch: &[u8], parts: Parts, out: &mut [u8]) -> [u8; 3]
+pub fn file_answer(batch: &[u8], parts: Parts, out: &mut [u8]) -> [u8; 5]
     requires { ⌜ Placed (now batch) parts × (longestField ≤ length (now out)) ⌝ }
     ensures { λ r. ⌜ Wrote (fileCalled (now (batch .entry))) r (take (parts .events - (parts .state + 2)) (now (out .exit))) ⌝ }
 {

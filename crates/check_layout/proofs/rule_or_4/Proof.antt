@@ -1,34 +1,22 @@
--- `rule_or_4` meets its contract: a framed file's step records are those that are tested.
+-- `rule_or_4` meets its contract: all step records fit where none is found that does not.
 use borrow.Author.Needs.{needs}
-use native.Mathlib.Omega.{arith}
-use Prim.Native.Nat.{ℕ}
-use mathlib.Core.Path.{_≡_, sym, ap, _∙_}
+use mathlib.Core.Path.{sym, ap, _∙_}
 use mathlib.Core.Bool.{Bool}
-use Rattle.spec_policy.specs.Lists.{every}
-use Rattle.spec_policy.specs.Records.{nodePlace, stepRecords}
-use Rattle.spec_check.specs.Layout.{stepFits}
-use Rattle.check_layout.specs.Fits.{stepsFit, ruleOr4}
-use Rattle.check_layout.proofs.Frame.{all-records}
+use Rattle.faults.specs.Meaning.{spotOf}
+use Rattle.check_layout.specs.Fits.{ruleOr4}
+use Rattle.check_layout.proofs.Unfit.{steps-all, steps-not}
 use Rattle.check_layout.proofs.rule_or_4.Statement.{statement}
 use Rattle.check_layout.proofs.rule_or_4.Tie as tie
 
-steps-fit-requires : tie.Need-steps-fit-requires
-unfolding nodePlace
-steps-fit-requires c κs = omega arith
-
-tested : (c : tie.After-steps-fit) → every stepFits (stepRecords (c .before .before .before .args .policy .now)) ≡ c .steps-fit .result
-unfolding nodePlace
-tested c =
-    let s = c .before .before .before in
-    all-records (s .pre) ∙ sym (c .steps-fit .ensures ∙ ap (λ (a : ℕ). stepsFit (s .args .policy .now) a (s .args .m)) (c .before .node-place .ensures))
-
 returns : tie.Need-returns
-unfolding ruleOr4
-returns c = sym (ap (λ (b : Bool). ruleOr4 b (c .before .before .before .before .args .rule)) (tested (c .before) ∙ c .if1 .taken))
+unfolding spotOf ruleOr4
+returns c =
+    ap (λ (b : Bool). ruleOr4 b (c .before .before .before .before .args .rule)) (steps-all _ (sym (ap spotOf (c .enum-told .given .1)) ∙ c .before .before .unfit-step .ensures))
 
 returns-2 : tie.Need-returns-2
-unfolding ruleOr4
-returns-2 c = sym (ap (λ (b : Bool). ruleOr4 b (c .before .before .before .before .args .rule)) (tested (c .before) ∙ c .if1 .left))
+unfolding spotOf ruleOr4
+returns-2 c =
+    ap (λ (b : Bool). ruleOr4 b (c .before .before .before .before .args .rule)) (steps-not _ (sym (ap spotOf (c .enum-told2 .given .1)) ∙ c .before .before .unfit-step .ensures))
 
 pub rule-or-4-spec : {M : Type 1} → statement M
-rule-or-4-spec = tie.close (tie.spec (λ c κs. search needs) steps-fit-requires returns returns-2)
+rule-or-4-spec = tie.close (tie.spec (λ c κs. search needs) (λ c. search needs) (λ c. search needs) returns returns-2)

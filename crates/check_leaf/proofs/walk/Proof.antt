@@ -9,7 +9,8 @@ use Rattle.actions.proofs.Tests.{true-not-false, of-yes}
 use Rattle.file_records.proofs.CodeLaws.{code-length}
 use Rattle.file_records.proofs.Rows.{step-meant}
 use Rattle.check_steps.proofs.StepLaws.{of-meant}
-use Rattle.check_leaf.proofs.LeafWalk.{none-possible, Walking, walk-starts, stands-here, walk-goes, row-stops, target-stops, all-records, all-nexts, all-fit, all-modes, all-branches, all-effects, all-inserts}
+use Rattle.check_possible.proofs.PossibleLaws.{none-possible}
+use Rattle.check_leaf.proofs.LeafWalk.{Walking, walk-starts, stands-here, walk-goes, row-stops, target-stops, all-records, all-nexts, all-fit, all-modes, all-branches, all-effects, all-inserts}
 use Rattle.check_leaf.proofs.walk.Statement.{statement}
 use Rattle.check_leaf.proofs.walk.Tie as tie
 

@@ -21,8 +21,8 @@ returns c = let e = ap answered (sym (c .before .checked .given .1)) ∙ c .befo
 
 returns-2 : tie.Need-returns-2
 unfolding answered
-returns-2 c = let e = ap answered (sym (c .before .checked2 .given .1)) ∙ c .before .before .before .check .ensures in refused-says _ _ _ e
+returns-2 c = let e = ap answered (sym (c .before .before .checked2 .given .1)) ∙ c .before .before .before .before .check .ensures in refused-says _ _ _ (c .refused .ensures) e
 
 pub fretmere-check-spec : {M : Type 1} → statement M
 fretmere-check-spec =
-    tie.close (tie.spec check-requires enum-known-checked enum-known-checked-2 returns returns-2)
+    tie.close (tie.spec check-requires enum-known-checked enum-known-checked-2 (λ c κs. search needs) returns returns-2)

@@ -2,7 +2,7 @@
 use mathlib.Core.Path.{sym, _∙_}
 use borrow.Author.Needs.{needs}
 use Rattle.spec_check.proofs.Passed.{passed}
-use Rattle.check_policy.proofs.Answers.{check-passes, check-refuses, number-refuses}
+use Rattle.check_policy.proofs.Answers.{check-passes, check-refuses, refusal-is}
 use Rattle.spec_turns.specs.Turn as spec
 use Rattle.spec_turns.specs.Entries.{refusals, closes}
 use Rattle.call_answer.specs.declared.Call.the-variants.{Close}
@@ -17,14 +17,14 @@ unfolding closes
 returns c =
     let a = c .before .before .before .before .before .before .before .args in
     let e = c .before .enum-told2 .given .1 in
-    refused-file (a .policy .now) spec.close (a .state .now) (a .events .now) _ (check-refuses (a .policy .now) (c .before .before .before .check .ensures) e) (number-refuses (c .refusal-number .ensures) e)
+    refused-file (a .policy .now) spec.close (a .state .now) (a .events .now) (check-refuses (a .policy .now) (c .before .before .before .check .ensures) e) _ (refusal-is _ (c .refusal .ensures) e)
 
 returns-2 : tie.Need-returns-2
 unfolding closes refusals
 returns-2 c =
-    let a = c .before .before .before .before .before .before .before .before .before .before .args in
-    let l = all-left (a .policy .now) spec.close (a .state .now) (a .events .now) (check-passes (a .policy .now) (c .before .before .before .before .before .before .check .ensures) (c .before .before .before .before .enum-told .given .1)) in
-    refused-here l (sym (c .before .broken11 .ensures) ∙ c .if1 .taken)
+    let a = c .before .before .before .before .before .before .before .before .before .before .before .args in
+    let l = all-left (a .policy .now) spec.close (a .state .now) (a .events .now) (check-passes (a .policy .now) (c .before .before .before .before .before .before .before .check .ensures) (c .before .before .before .before .before .enum-told .given .1)) in
+    refused-here l (sym (c .before .before .broken11 .ensures) ∙ c .before .if1 .taken) _ (c .bare-fault .ensures)
 
 broken12-requires : tie.Need-broken12-requires
 broken12-requires c κs =
@@ -36,10 +36,10 @@ broken12-requires c κs =
 returns-3 : tie.Need-returns-3
 unfolding closes refusals
 returns-3 c =
-    let a = c .before .before .before .before .before .before .before .before .before .before .before .before .before .args in
-    let l = all-left (a .policy .now) spec.close (a .state .now) (a .events .now) (check-passes (a .policy .now) (c .before .before .before .before .before .before .before .before .before .check .ensures) (c .before .before .before .before .before .before .before .enum-told .given .1)) in
-    let l₁ = next-left l (sym (c .before .before .before .before .broken11 .ensures) ∙ c .before .before .before .if1 .left) in
-    refused-here l₁ (sym (c .before .broken12 .ensures) ∙ c .if2 .taken)
+    let a = c .before .before .before .before .before .before .before .before .before .before .before .before .before .before .args in
+    let l = all-left (a .policy .now) spec.close (a .state .now) (a .events .now) (check-passes (a .policy .now) (c .before .before .before .before .before .before .before .before .before .before .check .ensures) (c .before .before .before .before .before .before .before .before .enum-told .given .1)) in
+    let l₁ = next-left l (sym (c .before .before .before .before .before .broken11 .ensures) ∙ c .before .before .before .before .if1 .left) in
+    refused-here l₁ (sym (c .before .before .broken12 .ensures) ∙ c .before .if2 .taken) _ (c .bare-fault2 .ensures)
 
 carry-out-requires : tie.Need-carry-out-requires
 unfolding readable asksRoot
@@ -72,10 +72,12 @@ close-spec =
     (λ c κs. search needs)
     returns
     (λ c κs. search needs)
+    (λ c κs. search needs)
     (λ c. search needs)
     (λ c. search needs)
     returns-2
     broken12-requires
+    (λ c κs. search needs)
     (λ c. search needs)
     (λ c. search needs)
     returns-3

@@ -3,7 +3,7 @@ use native.Mathlib.Omega.{arith}
 use mathlib.Core.Path.{sym, _∙_}
 use borrow.Author.Needs.{needs}
 use Rattle.spec_check.proofs.Passed.{passed, passed-sets}
-use Rattle.check_policy.proofs.Answers.{check-passes, check-refuses, number-refuses}
+use Rattle.check_policy.proofs.Answers.{check-passes, check-refuses, refusal-is}
 use Rattle.spec_turns.specs.Turn as spec
 use Rattle.spec_turns.specs.Entries.{refusals, offers}
 use Rattle.call_answer.specs.declared.Call.the-variants.{Offer}
@@ -18,14 +18,14 @@ unfolding offers
 returns c =
     let a = c .before .before .before .before .before .before .before .args in
     let e = c .before .enum-told .given .1 in
-    refused-file (a .policy .now) (spec.offer (a .action)) (a .state .now) (a .events .now) _ (check-refuses (a .policy .now) (c .before .before .before .check .ensures) e) (number-refuses (c .refusal-number .ensures) e)
+    refused-file (a .policy .now) (spec.offer (a .action)) (a .state .now) (a .events .now) (check-refuses (a .policy .now) (c .before .before .before .check .ensures) e) _ (refusal-is _ (c .refusal .ensures) e)
 
 returns-2 : tie.Need-returns-2
 unfolding offers refusals
 returns-2 c =
-    let a = c .before .before .before .before .before .before .before .before .before .before .before .args in
-    let l = all-left (a .policy .now) (spec.offer (a .action)) (a .state .now) (a .events .now) (check-passes (a .policy .now) (c .before .before .before .before .before .before .before .check .ensures) (c .before .before .before .before .before .checked .given .1)) in
-    refused-here l (sym (c .before .broken11 .ensures) ∙ c .if1 .taken)
+    let a = c .before .before .before .before .before .before .before .before .before .before .before .before .args in
+    let l = all-left (a .policy .now) (spec.offer (a .action)) (a .state .now) (a .events .now) (check-passes (a .policy .now) (c .before .before .before .before .before .before .before .before .check .ensures) (c .before .before .before .before .before .before .checked .given .1)) in
+    refused-here l (sym (c .before .before .broken11 .ensures) ∙ c .before .if1 .taken) _ (c .bare-fault .ensures)
 
 broken12-requires : tie.Need-broken12-requires
 broken12-requires c κs =
@@ -37,10 +37,10 @@ broken12-requires c κs =
 returns-3 : tie.Need-returns-3
 unfolding offers refusals
 returns-3 c =
-    let a = c .before .before .before .before .before .before .before .before .before .before .before .before .before .before .args in
-    let l = all-left (a .policy .now) (spec.offer (a .action)) (a .state .now) (a .events .now) (check-passes (a .policy .now) (c .before .before .before .before .before .before .before .before .before .before .check .ensures) (c .before .before .before .before .before .before .before .before .checked .given .1)) in
-    let l₁ = next-left l (sym (c .before .before .before .before .broken11 .ensures) ∙ c .before .before .before .if1 .left) in
-    refused-here l₁ (sym (c .before .broken12 .ensures) ∙ c .if2 .taken)
+    let a = c .before .before .before .before .before .before .before .before .before .before .before .before .before .before .before .args in
+    let l = all-left (a .policy .now) (spec.offer (a .action)) (a .state .now) (a .events .now) (check-passes (a .policy .now) (c .before .before .before .before .before .before .before .before .before .before .before .check .ensures) (c .before .before .before .before .before .before .before .before .before .checked .given .1)) in
+    let l₁ = next-left l (sym (c .before .before .before .before .before .broken11 .ensures) ∙ c .before .before .before .before .if1 .left) in
+    refused-here l₁ (sym (c .before .before .broken12 .ensures) ∙ c .before .if2 .taken) _ (c .bare-fault2 .ensures)
 
 broken14-requires : tie.Need-broken14-requires
 broken14-requires c κs = let a = c .before .before .before .before .before .before .before .before .before .before .before .before .before .before .before .args in room-enough (a .state .now) (a .events .now) (sym (c .before .before .before .before .before .broken11 .ensures) ∙ c .before .before .before .before .if1 .left) .0
@@ -48,21 +48,21 @@ broken14-requires c κs = let a = c .before .before .before .before .before .bef
 returns-4 : tie.Need-returns-4
 unfolding offers refusals
 returns-4 c =
-    let a = c .before .before .before .before .before .before .before .before .before .before .before .before .before .before .before .before .before .args in
-    let l = all-left (a .policy .now) (spec.offer (a .action)) (a .state .now) (a .events .now) (check-passes (a .policy .now) (c .before .before .before .before .before .before .before .before .before .before .before .before .before .check .ensures) (c .before .before .before .before .before .before .before .before .before .before .before .checked .given .1)) in
-    let l₁ = next-left l (sym (c .before .before .before .before .before .before .before .broken11 .ensures) ∙ c .before .before .before .before .before .before .if1 .left) in
-    let l₂ = next-left l₁ (sym (c .before .before .before .before .broken12 .ensures) ∙ c .before .before .before .if2 .left) in
-    refused-here l₂ (no-action (a .action) (omega arith))
-
-returns-5 : tie.Need-returns-5
-unfolding offers refusals
-returns-5 c =
     let a = c .before .before .before .before .before .before .before .before .before .before .before .before .before .before .before .before .before .before .args in
     let l = all-left (a .policy .now) (spec.offer (a .action)) (a .state .now) (a .events .now) (check-passes (a .policy .now) (c .before .before .before .before .before .before .before .before .before .before .before .before .before .before .check .ensures) (c .before .before .before .before .before .before .before .before .before .before .before .before .checked .given .1)) in
     let l₁ = next-left l (sym (c .before .before .before .before .before .before .before .before .broken11 .ensures) ∙ c .before .before .before .before .before .before .before .if1 .left) in
     let l₂ = next-left l₁ (sym (c .before .before .before .before .before .broken12 .ensures) ∙ c .before .before .before .before .if2 .left) in
+    refused-here l₂ (no-action (a .action) (omega arith)) _ (c .bare-fault3 .ensures)
+
+returns-5 : tie.Need-returns-5
+unfolding offers refusals
+returns-5 c =
+    let a = c .before .before .before .before .before .before .before .before .before .before .before .before .before .before .before .before .before .before .before .args in
+    let l = all-left (a .policy .now) (spec.offer (a .action)) (a .state .now) (a .events .now) (check-passes (a .policy .now) (c .before .before .before .before .before .before .before .before .before .before .before .before .before .before .before .check .ensures) (c .before .before .before .before .before .before .before .before .before .before .before .before .before .checked .given .1)) in
+    let l₁ = next-left l (sym (c .before .before .before .before .before .before .before .before .before .broken11 .ensures) ∙ c .before .before .before .before .before .before .before .before .if1 .left) in
+    let l₂ = next-left l₁ (sym (c .before .before .before .before .before .before .broken12 .ensures) ∙ c .before .before .before .before .before .if2 .left) in
     let l₃ = next-left l₂ (an-action (a .action) (omega arith)) in
-    refused-here l₃ (sym (c .before .before .broken14 .ensures) ∙ c .if4 .taken)
+    refused-here l₃ (sym (c .before .before .before .broken14 .ensures) ∙ c .before .if4 .taken) _ (c .bare-fault4 .ensures)
 
 carry-action-requires : tie.Need-carry-action-requires
 unfolding readable
@@ -97,17 +97,21 @@ offer-spec =
     (λ c κs. search needs)
     returns
     (λ c κs. search needs)
+    (λ c κs. search needs)
     (λ c. search needs)
     (λ c. search needs)
     returns-2
     broken12-requires
+    (λ c κs. search needs)
     (λ c. search needs)
     (λ c. search needs)
     returns-3
     broken14-requires
+    (λ c κs. search needs)
     (λ c. search needs)
     (λ c. search needs)
     returns-4
+    (λ c κs. search needs)
     (λ c. search needs)
     (λ c. search needs)
     returns-5

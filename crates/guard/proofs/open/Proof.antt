@@ -1,7 +1,7 @@
 -- `open` meets its contract: the check's refusal, refusal 11, or the call carried out.
 use mathlib.Core.Path.{sym, _∙_}
 use borrow.Author.Needs.{needs}
-use Rattle.check_policy.proofs.Answers.{check-passes, check-refuses, number-refuses}
+use Rattle.check_policy.proofs.Answers.{check-passes, check-refuses, refusal-is}
 use Rattle.spec_turns.specs.Turn.{opening}
 use Rattle.spec_turns.specs.Entries.{refusals, opens}
 use Rattle.call_answer.specs.declared.Call.the-variants.{Open}
@@ -16,14 +16,14 @@ unfolding opens
 returns c =
     let a = c .before .before .before .before .before .before .before .args in
     let e = c .before .enum-told2 .given .1 in
-    refused-file (a .policy .now) opening (a .state .now) (a .events .now) _ (check-refuses (a .policy .now) (c .before .before .before .check .ensures) e) (number-refuses (c .refusal-number .ensures) e)
+    refused-file (a .policy .now) opening (a .state .now) (a .events .now) (check-refuses (a .policy .now) (c .before .before .before .check .ensures) e) _ (refusal-is _ (c .refusal .ensures) e)
 
 returns-2 : tie.Need-returns-2
 unfolding opens refusals
 returns-2 c =
-    let a = c .before .before .before .before .before .before .before .before .before .before .args in
-    let l = all-left (a .policy .now) opening (a .state .now) (a .events .now) (check-passes (a .policy .now) (c .before .before .before .before .before .before .check .ensures) (c .before .before .before .before .enum-told .given .1)) in
-    refused-here l (sym (c .before .broken11 .ensures) ∙ c .if1 .taken)
+    let a = c .before .before .before .before .before .before .before .before .before .before .before .args in
+    let l = all-left (a .policy .now) opening (a .state .now) (a .events .now) (check-passes (a .policy .now) (c .before .before .before .before .before .before .before .check .ensures) (c .before .before .before .before .before .enum-told .given .1)) in
+    refused-here l (sym (c .before .before .broken11 .ensures) ∙ c .before .if1 .taken) _ (c .bare-fault .ensures)
 
 carry-out-requires : tie.Need-carry-out-requires
 unfolding readable asksRoot
@@ -54,6 +54,7 @@ open-spec =
     (λ c. search needs)
     (λ c κs. search needs)
     returns
+    (λ c κs. search needs)
     (λ c κs. search needs)
     (λ c. search needs)
     (λ c. search needs)

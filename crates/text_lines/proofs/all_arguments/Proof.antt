@@ -1,6 +1,6 @@
 -- `all_arguments` meets its contract.
 use Rattle.text_append.proofs.AddedLaws.{joined, named}
-use Rattle.text_lines.proofs.LaidLaws.{arguments-three}
+use Rattle.text_lines.proofs.LineLaws.{arguments-three}
 use borrow.Author.Needs.{needs}
 use Rattle.text_lines.proofs.all_arguments.Statement.{statement}
 use Rattle.text_lines.proofs.all_arguments.Tie as tie

@@ -9,7 +9,7 @@ use Rattle.spec_text.specs.Printing.{argument, arguments}
 use Rattle.text_forms.specs.declared.forms.Slot.{Slot}
 use Rattle.text_forms.specs.Meant.{sortOf, slotOf}
 use Rattle.text_append.proofs.AddedLaws.{nothing, joined, named}
-use Rattle.text_lines.proofs.LaidLaws.{argument-one}
+use Rattle.text_lines.proofs.LineLaws.{argument-one}
 use borrow.Author.Needs.{needs}
 use Rattle.text_lines.proofs.argument.Statement.{statement}
 use Rattle.text_lines.proofs.argument.Tie as tie

@@ -8,7 +8,8 @@ use Rattle.text_forms.specs.Table.{formsFrom, formAt}
 use Rattle.text_forms.specs.Meant.{sortOf}
 use Rattle.text_forms.proofs.FormLaws.{form-some, form-none, kind-found}
 use Rattle.text_forms.proofs.FieldLaws.{size-least}
-use Rattle.text_lines.proofs.LaidLaws.{laid-text, laid-none, laid-as, record-unknown, record-told, record-untold}
+use Rattle.text_append.proofs.AddedLaws.{named}
+use Rattle.text_lines.proofs.LineLaws.{record-unknown, record-told, record-untold}
 use borrow.Author.Needs.{needs}
 use Rattle.text_lines.proofs.record_line.Statement.{statement}
 use Rattle.text_lines.proofs.record_line.Tie as tie
@@ -26,8 +27,8 @@ found c =
 
 returns : tie.Need-returns
 returns c =
-    let a = c .before .before .before .before .before .args in
-    laid-as laid-none (record-unknown (sortOf (a .sort)) (a .i) (a .bytes .now) (found (c .before) ∙ form-none (c .before .form-of .result) (c .if1 .taken)))
+    let a = c .before .before .before .before .before .before .before .before .before .args in
+    named (c .before .before .bytes-line .ensures) (record-unknown (sortOf (a .sort)) (a .i) (a .bytes .now) (found (c .before .before .before .before .before) ∙ form-none (c .before .before .before .before .before .form-of .result) (c .before .before .before .before .if1 .taken)))
 
 says-requires : tie.Need-says-requires
 says-requires c κs =
@@ -39,15 +40,15 @@ returns-2 : tie.Need-returns-2
 returns-2 c =
     let a = c .before .before .before .before .before .before .before .before .before .before .before .args in
     let f = c .before .before .before .before .before .before .before .form-of .result in
-    laid-as (laid-text (c .before .before .line .ensures))
+    named (c .before .before .line .ensures)
     (record-told (sortOf (a .sort)) (a .i) (a .bytes .now) (formAt f) (found (c .before .before .before .before .before .before .before) ∙ form-some f (c .before .before .before .before .before .before .if1 .left)) (sym (c .before .before .before .before .before .says .ensures) ∙ c .before .before .before .before .if2 .taken))
 
 returns-3 : tie.Need-returns-3
 returns-3 c =
-    let a = c .before .before .before .before .before .before .before .args in
-    let f = c .before .before .before .form-of .result in
-    laid-as laid-none
-    (record-untold (sortOf (a .sort)) (a .i) (a .bytes .now) (formAt f) (found (c .before .before .before) ∙ form-some f (c .before .before .if1 .left)) (sym (c .before .says .ensures) ∙ c .if2 .left))
+    let a = c .before .before .before .before .before .before .before .before .before .before .before .args in
+    let f = c .before .before .before .before .before .before .before .form-of .result in
+    named (c .before .before .bytes-line2 .ensures)
+    (record-untold (sortOf (a .sort)) (a .i) (a .bytes .now) (formAt f) (found (c .before .before .before .before .before .before .before) ∙ form-some f (c .before .before .before .before .before .before .if1 .left)) (sym (c .before .before .before .before .before .says .ensures) ∙ c .before .before .before .before .if2 .left))
 
 pub record-line-spec : {M : Type 1} → statement M
 record-line-spec =
@@ -55,9 +56,13 @@ record-line-spec =
     (tie.spec
     byte-requires
     (λ c κs. search needs)
+    (λ c κs. search needs)
+    (λ c. search needs)
     returns
     says-requires
     (λ c κs. search needs)
     (λ c. search needs)
     returns-2
+    (λ c κs. search needs)
+    (λ c. search needs)
     returns-3)

@@ -5,10 +5,13 @@ use mathlib.Core.Path.{sym, ap, _∙_}
 use lib.ListN.{length}
 use lib.Seq.{length-take-le}
 use borrow.Author.Needs.{needs}
+use Rattle.spec_policy.specs.Spots.{bareFault}
 use Rattle.text_read.specs.Transcribed.{gave}
+use Rattle.text_append.specs.Refusal.{refusal}
+use Rattle.text_append.proofs.AddedLaws.{named}
 use Rattle.text_fault.specs.Expected.{faultIn}
 use Rattle.text_fault.proofs.FaultLaws.{fault-in-short}
-use Rattle.guardwrite.proofs.ToldLaws.{instead, line-tells, was-read, was-bad, was-short}
+use Rattle.guardwrite.proofs.ToldLaws.{instead, as-message, line-tells, refused-tells, three-small, was-read, was-bad, was-short}
 use Rattle.guardwrite.proofs.told.fill.Statement.{statement}
 use Rattle.guardwrite.proofs.told.fill.Tie as tie
 
@@ -75,15 +78,16 @@ returns-2 c =
     let s = c .before .before .before .before .before .before .before .before .before .before .before .before .before .before .before .before .before .before in
     let r = c .before .before .before .before .before .before .before .before .before .before .before .read in
     let g = c .before .before .before .before .before .answer2 .given in
-    instead (line-tells (g .0 .0) (omega arith) (s .pre .2) (faultIn (s .args .text .now) (g .0 .0)) (fault-in-short (s .args .text .now) (g .0 .0)) (c .before .before .bad-line .ensures))
+    let short = fault-in-short (s .args .text .now) (g .0 .0) in
+    instead (as-message (line-tells (g .0 .0) (omega arith) (s .pre .2) (faultIn (s .args .text .now) (g .0 .0)) (omega arith) (c .before .before .bad-line .ensures)))
     (was-bad (s .args .text .now) (s .args .nodes .now) (s .args .steps .now) (r .last .1 .0) (r .last .1 .1 .0) (s .args .out .now) (g .0 .0) (r .ensures ∙ ap (λ a. gave a (r .last .1 .0) (r .last .1 .1 .0)) (g .1)))
 
 returns-3 : tie.Need-returns-3
 returns-3 c =
-    let s = c .before .before .before .before .before .before .before .before .before .before .before .before .before .before .before .before .before in
-    let r = c .before .before .before .before .before .before .before .before .before .before .read in
-    instead (c .before .before .refused .ensures)
-    (was-short (s .args .text .now) (s .args .nodes .now) (s .args .steps .now) (r .last .1 .0) (r .last .1 .1 .0) (s .args .out .now) (s .pre .0) (s .pre .1) (r .ensures ∙ ap (λ a. gave a (r .last .1 .0) (r .last .1 .1 .0)) (c .before .before .before .before .enum-told .given .1)))
+    let s = c .before .before .before .before .before .before .before .before .before .before .before .before .before .before .before .before .before .before in
+    let r = c .before .before .before .before .before .before .before .before .before .before .before .read in
+    instead (as-message (refused-tells (bareFault 3) three-small (s .pre .2) (named (c .before .before .refuse .ensures) (ap refusal (c .before .before .before .bare-fault .ensures)))))
+    (was-short (s .args .text .now) (s .args .nodes .now) (s .args .steps .now) (r .last .1 .0) (r .last .1 .1 .0) (s .args .out .now) (s .pre .0) (s .pre .1) (r .ensures ∙ ap (λ a. gave a (r .last .1 .0) (r .last .1 .1 .0)) (c .before .before .before .before .before .enum-told .given .1)))
 
 pub fill-spec : {M : Type 1} → statement M
 fill-spec =
@@ -101,6 +105,7 @@ fill-spec =
     (λ c. search needs)
     (λ c κs. search needs)
     (λ c. search needs)
+    (λ c κs. search needs)
     (λ c κs. search needs)
     (λ c. search needs)
     (λ c. search needs)

@@ -2,28 +2,16 @@
 use mathlib.Core.Path.{sym, ap, _∙_}
 use Rattle.check_policy.specs.Answers.{answered}
 use Rattle.trials.specs.Calls.{answerBytes}
+use Rattle.trials.proofs.CallLaws.{passed-bytes}
 use borrow.Author.Needs.{needs}
 use Rattle.trials.proofs.answers.check_bytes.Statement.{statement}
 use Rattle.trials.proofs.answers.check_bytes.Tie as tie
 
-check-requires : tie.Need-check-requires
-check-requires c κs = search needs
-
-enum-known-c : tie.Need-enum-known-c
-enum-known-c c = search needs
-
-spell-requires : tie.Need-spell-requires
-spell-requires c κs = search needs
-
-enum-known-c-2 : tie.Need-enum-known-c-2
-enum-known-c-2 c = search needs
-
-spell-requires-2 : tie.Need-spell-requires-2
-spell-requires-2 c κs = search needs
-
 returns : tie.Need-returns
-unfolding answered answerBytes
-returns c = c .spell .ensures ∙ ap answerBytes (ap answered (sym (c .before .before .c .given .1)) ∙ c .before .before .before .before .check .ensures)
+unfolding answered
+returns c =
+    passed-bytes (c .before .bare-fault .result) _ _ (c .before .bare-fault .ensures) (c .spell .ensures)
+    (ap answered (sym (c .before .before .before .c .given .1)) ∙ c .before .before .before .before .before .check .ensures)
 
 returns-2 : tie.Need-returns-2
 unfolding answered answerBytes
@@ -33,10 +21,11 @@ pub check-bytes-spec : {M : Type 1} → statement M
 check-bytes-spec =
     tie.close
     (tie.spec
-    check-requires
-    enum-known-c
-    spell-requires
-    enum-known-c-2
-    spell-requires-2
+    (λ c κs. search needs)
+    (λ c. search needs)
+    (λ c κs. search needs)
+    (λ c κs. search needs)
+    (λ c. search needs)
+    (λ c κs. search needs)
     returns
     returns-2)

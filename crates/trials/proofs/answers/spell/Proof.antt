@@ -1,18 +1,27 @@
 -- `spell` meets its contract: each byte is the definition's.
-use mathlib.Core.Path.{refl}
-use Rattle.spec_policy.specs.Bytes.{spell}
+use mathlib.Core.Path.{ap}
+use mathlib.Core.List.{_∷_, _++_}
+use lib.ListN.{getD}
+use Rattle.spec_policy.specs.Bytes.{Bytes, spell}
+use Rattle.trials.specs.Calls.{refusalBytes}
 use borrow.Author.Needs.{needs}
 use Rattle.trials.proofs.answers.spell.Statement.{statement}
 use Rattle.trials.proofs.answers.spell.Tie as tie
 
 returns : tie.Need-returns
-unfolding spell
-returns c = refl
+unfolding refusalBytes spell
+returns c =
+    let a = c .before .args in
+    ap (λ (rs : Bytes). getD rs 0 0 ∷ getD rs 1 0 ∷ getD rs 2 0 ∷ (spell 8 (a .x) ++ spell 8 (a .y))) (c .refusal-bytes .ensures)
 
 pub spell-spec : {M : Type 1} → statement M
 spell-spec =
     tie.close
     (tie.spec
+    (λ c κs. search needs)
+    (λ c. search needs)
+    (λ c. search needs)
+    (λ c. search needs)
     (λ c. search needs)
     (λ c. search needs)
     (λ c. search needs)

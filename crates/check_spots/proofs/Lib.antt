@@ -1,0 +1,3 @@
+mod ByKind
+mod LeafLoops
+mod AllLeaves

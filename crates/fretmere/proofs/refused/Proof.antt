@@ -1,0 +1,16 @@
+-- `refused` meets its contract.
+use native.Mathlib.Omega.{arith}
+use borrow.Author.Needs.{needs}
+use Rattle.faults.specs.Meaning.{faultOf}
+use Rattle.fretmere.proofs.refused.Statement.{statement}
+use Rattle.fretmere.proofs.refused.Tie as tie
+
+add-result : tie.Need-add-result
+add-result c = omega (arith, c .spot-code .ensures .1)
+
+returns : tie.Need-returns
+unfolding faultOf
+returns c = omega (arith, c .spot-code .ensures .0)
+
+pub refused-spec : {M : Type 1} → statement M
+refused-spec = tie.close (tie.spec (λ c. search needs) (λ c. search needs) (λ c κs. search needs) add-result returns)

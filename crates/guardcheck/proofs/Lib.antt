@@ -1,0 +1,3 @@
+mod SpreadLaws
+pub mod ShownLaws
+pub mod Worked

@@ -1,0 +1,4 @@
+pub mod SpotLaws
+pub mod LineLaws
+pub mod Blamed
+pub mod ShortLaws
