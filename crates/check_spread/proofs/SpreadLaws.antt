@@ -27,8 +27,9 @@ use Rattle.spec_policy.specs.Tree.{treeAt}
 use Rattle.check_layout.specs.Frame.{Framed}
 use Rattle.check_layout.proofs.Frame.{node-list}
 use Rattle.check_leaves.specs.Leaves.{insertsIn, LeafValues}
-use Rattle.check_spread.specs.Spreads.{cap, capped, cappedBy, cappedNode, Kept}
-use Rattle.spec_policy.proofs.ListLaws.{one-most}
+use Rattle.check_spread.specs.Spreads.{cap, capped, cappedBy, cappedNode, Kept, KeptFrom}
+use Rattle.spec_policy.specs.Lists.{listed}
+use Rattle.spec_policy.proofs.ListLaws.{all-zero, one-most}
 
 -- ---- numbers
 
@@ -132,14 +133,10 @@ pub capped-by : (x : Node) (ins : ℕ) (caps : List ℕ) (k : NodeKind) → k �
 unfolding cappedNode
 capped-by x ins caps k e = ap (λ (q : NodeKind). cappedBy q ins (getD caps (x .left) 0) (getD caps (x .right) 0)) e
 
--- what is kept of the nodes from i on
-pub record KeptFrom (file : Bytes) (n i : ℕ) (caps : List ℕ) : Type 0 where
-  pub size : length caps ≡ mostNodes
-  pub most : (k : ℕ) → getD caps k 0 ≤ 256
-  pub is : (k : ℕ) → i ≤ k → k < n → getD caps k 0 ≡ capped (treeAt file k)
-
-pub kept-none : (file : Bytes) (n : ℕ) (caps : List ℕ) → length caps ≡ mostNodes → ((k : ℕ) → getD caps k 0 ≡ 0) → KeptFrom file n n caps
-kept-none file n caps l z = record { size = l; most = λ k. omega (arith, z k); is = λ k g h. absurd (omega arith) }
+-- before the first of them nothing is: all are zero
+pub none-kept : (file : Bytes) (n : ℕ) → KeptFrom file n n (listed (λ j. 0) 0 mostNodes)
+unfolding listed
+none-kept file n = record { size = refl; most = λ k. omega (arith, all-zero mostNodes 0 k); is = λ k g h. absurd (omega arith) }
 
 kept-more : (file : Bytes) (n i v : ℕ) (caps : List ℕ) → i < mostNodes → v ≡ capped (treeAt file i) → KeptFrom file n (i + 1) caps → KeptFrom file n i (set caps i v)
 unfolding capped

@@ -5,8 +5,9 @@ use mathlib.Core.Bool.{true, false}
 use mathlib.Core.List.{List}
 use lib.Dec.{leb}
 use lib.ListN.{length, getD}
-use Rattle.spec_policy.specs.Records.{Node}
-use Rattle.spec_policy.specs.Tree.{Way, Join, NodeKind, aLeaf, aTrivial, anUnsatisfiable, aPair, noNode, nodeKind, Tree}
+use Rattle.spec_policy.specs.Bytes.{Bytes}
+use Rattle.spec_policy.specs.Records.{Node, mostNodes}
+use Rattle.spec_policy.specs.Tree.{Way, Join, NodeKind, aLeaf, aTrivial, anUnsatisfiable, aPair, noNode, nodeKind, Tree, treeAt}
 use Rattle.spec_check.specs.Spread.{spreadOf, spread}
 
 -- a spread, and 256 for each that is above 255
@@ -34,3 +35,9 @@ cappedNode x ins caps = cappedBy (nodeKind (x .kind)) ins (getD caps (x .left) 0
 pub record Kept (x : Node) (caps : List ℕ) : Type 0 where
   pub inside : (w : Way) (j : Join) → nodeKind (x .kind) ≡ aPair w j → (x .left < length caps) × (x .right < length caps)
   pub most : (k : ℕ) → getD caps k 0 ≤ 256
+
+-- what is kept of the nodes from i on
+pub record KeptFrom (file : Bytes) (n i : ℕ) (caps : List ℕ) : Type 0 where
+  pub size : length caps ≡ mostNodes
+  pub most : (k : ℕ) → getD caps k 0 ≤ 256
+  pub is : (k : ℕ) → i ≤ k → k < n → getD caps k 0 ≡ capped (treeAt file k)

@@ -14,7 +14,7 @@ ghost use Rattle.spec_check.specs.Spread.{spreadOf, wrong10};
 ghost use Rattle.faults.specs.Meaning.{spotOf};
 ghost use Rattle.check_layout.specs.Frame.{Framed};
 ghost use Rattle.check_leaves.specs.Leaves.{insertsIn, LeafValues};
-ghost use Rattle.check_spread.specs.Spreads.{cap, capped, cappedNode, Kept};
+ghost use Rattle.check_spread.specs.Spreads.{cap, capped, cappedNode, Kept, KeptFrom};
 use faults::Spot;
 use faults::on_record;
 use file_records::Kind;
@@ -61,7 +61,30 @@ fn node_spread(policy: &[u8], place: usize, inserts: u32, caps: &[u32]) -> u32
     }
 }
 
-// The first node that is too wide. The walk through each leaf has counted its ins steps; the nodes go down, so the last that is found is the first.
+// Keeps every node's spread, and answers the first node whose is above 255: the nodes go down, so the last that is found is the first.
+fn keep_spreads(policy: &[u8], n: usize, m: usize, inserts: &[u32], caps: &mut [u32]) -> Spot
+    requires { ⌜ Framed (now policy) n m ⌝ }
+    requires { ⌜ broken4 (now policy) ≡ false ⌝ }
+    requires { ⌜ broken5 (now policy) ≡ false ⌝ }
+    requires { ⌜ broken6 (now policy) ≡ false ⌝ }
+    requires { ⌜ LeafValues insertsIn (now policy) n (now inserts) ⌝ }
+    requires { ⌜ KeptFrom (now policy) n n (now caps) ⌝ }
+    ensures { λ r. ⌜ spotOf r ≡ wrong10 (now (policy .entry)) ⌝ }
+    ensures { λ _. ⌜ KeptFrom (now (policy .entry)) n 0 (now (caps .exit)) ⌝ }
+{
+    let mut found = Spot::Nowhere;
+    let mut i = n;
+    while i > 0 {
+        i -= 1;
+        let spread = node_spread(policy, node_place(i), inserts[i], caps);
+        caps[i] = spread;
+        if spread == TOO_WIDE {
+            found = on_record(i);
+        }
+    }
+    found
+}
+
 pub fn wrong10(policy: &[u8], n: usize, m: usize, inserts: &[u32]) -> Spot
     requires { ⌜ Framed (now policy) n m ⌝ }
     requires { ⌜ broken4 (now policy) ≡ false ⌝ }
@@ -71,20 +94,10 @@ pub fn wrong10(policy: &[u8], n: usize, m: usize, inserts: &[u32]) -> Spot
     ensures { λ r. ⌜ spotOf r ≡ wrong10 (now (policy .entry)) ⌝ }
 {
     let mut caps = [0u32; MOST_NODES];
-    let mut found = Spot::Nowhere;
-    let mut i = n;
-    while i > 0 {
-        i -= 1;
-        let spread = node_spread(policy, node_place(i), inserts[i], &caps);
-        caps[i] = spread;
-        if spread == TOO_WIDE {
-            found = on_record(i);
-        }
-    }
-    found
+    keep_spreads(policy, n, m, inserts, &mut caps)
 }
 
-// The root's spread, by the same pass: rule 10 asks for no number, the desk does.
+// The root's spread, for who shows it; 256 if it is above 255.
 pub fn root_spread(policy: &[u8], n: usize, m: usize, inserts: &[u32]) -> u32
     requires { ⌜ Framed (now policy) n m ⌝ }
     requires { ⌜ broken4 (now policy) ≡ false ⌝ }
@@ -94,10 +107,6 @@ pub fn root_spread(policy: &[u8], n: usize, m: usize, inserts: &[u32]) -> u32
     ensures { λ r. ⌜ r ≡ capped (treeAt (now (policy .entry)) 0) ⌝ }
 {
     let mut caps = [0u32; MOST_NODES];
-    let mut i = n;
-    while i > 0 {
-        i -= 1;
-        caps[i] = node_spread(policy, node_place(i), inserts[i], &caps);
-    }
+    keep_spreads(policy, n, m, inserts, &mut caps);
     caps[0]
 }

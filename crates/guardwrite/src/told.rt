@@ -28,7 +28,7 @@ use text_fault::line_count;
 use text_read::Answer;
 use text_read::read;
 use text_spot::append_fault;
-use text_spot::record_line;
+use text_spot::spot_line;
 
 // How many bytes at the start of the buffer are the file, or the message.
 pub enum Told {
@@ -44,7 +44,7 @@ fn blame(text: &[u8], nodes: &[u8], fault: Fault, out: &mut [u8]) -> usize
         (lineSays (spotLine (now (text .entry)) (now (nodes .entry)) (faultOf fault)) (faultSays (now (nodes .entry)) (faultOf fault)))
         ⌝ }
 {
-    let line = record_line(text, nodes, fault);
+    let line = spot_line(text, nodes, fault);
     let begun = begin(line, out);
     let said = append_fault(out, begun, nodes, fault);
     append(out, said, b"\n")

@@ -187,7 +187,7 @@ fn line_of(text: &[u8], steps: bool, i: usize) -> usize
 }
 
 // The line of the record, in the text from which these node records were read; 0 where there is none.
-pub fn record_line(text: &[u8], nodes: &[u8], fault: Fault) -> usize
+pub fn spot_line(text: &[u8], nodes: &[u8], fault: Fault) -> usize
     ensures { λ r. ⌜ r ≡ spotLine (now (text .entry)) (now (nodes .entry)) (faultOf fault) ⌝ }
 {
     let found = about(nodes, fault);

@@ -13,7 +13,7 @@ returns : tie.Need-returns
 unfolding lineSays ascii
 returns c =
     let s = c .before .before .before .before .before .before .before .before .before .before .before .before .before .before .before .before .before in
-    let n = c .before .before .before .before .before .before .before .before .before .before .before .before .before .record-line in
+    let n = c .before .before .before .before .before .before .before .before .before .before .before .before .before .spot-line in
     blamed-tells (faultOf (s .args .fault)) (s .pre .0) (s .pre .1) (s .args .text .now) (s .args .nodes .now) (n .result) (n .ok) (omega arith) (n .ensures)
     (joined (c .before .before .before .before .before .before .before .before .before .before .before .begin .ensures) (joined (c .before .before .before .before .before .before .before .append-fault .ensures) (c .before .before .append .ensures)))
 

@@ -1,10 +1,10 @@
--- `record_line` meets its contract: no line, a node's, or a step's.
+-- `spot_line` meets its contract: no line, a node's, or a step's.
 use mathlib.Core.Path.{sym, ap, _∙_}
 use borrow.Author.Needs.{needs}
 use Rattle.spec_text.specs.Where.{lineOfRecord, spotLine}
 use Rattle.text_spot.specs.Meaning.{whichOf, sortOf}
-use Rattle.text_spot.proofs.record_line.Statement.{statement}
-use Rattle.text_spot.proofs.record_line.Tie as tie
+use Rattle.text_spot.proofs.spot_line.Statement.{statement}
+use Rattle.text_spot.proofs.spot_line.Tie as tie
 
 returns : tie.Need-returns
 unfolding spotLine lineOfRecord whichOf
@@ -18,8 +18,8 @@ returns-3 : tie.Need-returns-3
 unfolding spotLine lineOfRecord whichOf sortOf
 returns-3 c = c .line-of2 .ensures ∙ sym (ap (lineOfRecord (c .before .before .before .before .before .before .before .args .text .now)) (sym (c .before .before .before .before .about .ensures) ∙ ap whichOf (c .before .before .found2 .given .1)))
 
-pub record-line-spec : {M : Type 1} → statement M
-record-line-spec =
+pub spot-line-spec : {M : Type 1} → statement M
+spot-line-spec =
     tie.close
     (tie.spec
     (λ c κs. search needs)
