@@ -5,7 +5,7 @@ COUNT = 20000
 PREFIX = /usr/local
 DESTDIR =
 
-PROGRAMS = guardrun guardwrite guardtext guardcheck
+PROGRAMS = guardrun guardwrite guardtext guardcheck guardtrace
 VERSION = $(shell sed -n 's/.*FRETMERE_VERSION "\(.*\)"/\1/p' include/fretmere.h)
 UNDER = $(DESTDIR)$(PREFIX)
 
@@ -57,7 +57,9 @@ place:
 test: programs
 	@python3 tests/stored.py check tests/under-kit target/bin/guardrun
 	@python3 tests/texts.py check tests/under-kit target/bin/guardwrite
-	@$(MAKE) -s -C second CC=gcc run
+	@$(MAKE) -s -C second CC=gcc run trace
+	@python3 tests/tallies.py check tests/under-kit target/bin/guardtrace
+	@python3 tests/tallies.py long second/trace tests/under-kit target/bin/guardtrace
 	@python3 tests/texts.py back second/run tests/under-kit target/bin/guardtext
 	@python3 tests/fretmere.py
 	@python3 tests/shown.py check

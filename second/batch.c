@@ -2,7 +2,8 @@
 #include "field.h"
 #include "guard.h"
 
-/* What the three fields of a call are: the writer's stand in the places of the others'. */
+/* What the three fields of a call are: the writer's stand in the places of the others',
+ * and a trace stands behind its policy. */
 static struct field policy, state, events;
 static struct field *const nodes = &policy, *const steps = &state, *const out = &events;
 
@@ -39,6 +40,49 @@ static void answer_write(void)
     fwrite(out->bytes, 1, out->length, stdout);
 }
 
+static void write_counts(const uint32_t *counts, unsigned how_many)
+{
+    for (unsigned i = 0; i < how_many; i++) {
+        write_number(counts[i], 4);
+    }
+}
+
+static void write_tally(const guard_tally *tally)
+{
+    write_counts(tally->steps, GUARD_MAX_STEPS);
+    write_counts(tally->accepted, GUARD_ACTIONS);
+    write_counts(tally->suppressed, GUARD_ACTIONS);
+    write_counts(tally->inserted, GUARD_ACTIONS);
+}
+
+static void set_tally(guard_tally *tally, uint32_t start)
+{
+    for (unsigned i = 0; i < GUARD_MAX_STEPS; i++) {
+        tally->steps[i] = start;
+    }
+    for (unsigned a = 0; a < GUARD_ACTIONS; a++) {
+        tally->accepted[a] = tally->suppressed[a] = tally->inserted[a] = start;
+    }
+}
+
+static void answer_trace(uint8_t action)
+{
+    const size_t end = policy_end(&policy);
+    guard_tally tally;
+
+    set_tally(&tally, tally_start(action));
+    const guard_traced traced =
+        guard_trace(policy.bytes, end, policy.bytes + end, policy.length - end, state.bytes,
+                    state.length, events.bytes, events.length, &tally);
+    write_refusal(traced.refusal, traced.place);
+    write_number(traced.judged, 4);
+    write_number(traced.events, 4);
+    write_number(traced.status, 1);
+    fwrite(state.bytes, 1, state.length, stdout);
+    fwrite(events.bytes, 1, events.length, stdout);
+    write_tally(&tally);
+}
+
 static void answer_call(int entry, uint8_t action)
 {
     guard_answer answer;
@@ -63,7 +107,7 @@ static void answer_call(int entry, uint8_t action)
 /* Reads the rest of a call and answers it. */
 static bool one_call(int entry)
 {
-    if (entry > WRITE || !read_field(&policy) || !read_field(&state) || !read_field(&events)) {
+    if (entry > TRACE || !read_field(&policy) || !read_field(&state) || !read_field(&events)) {
         return false;
     }
     const int action = getchar();
@@ -74,6 +118,8 @@ static bool one_call(int entry)
         answer_check();
     } else if (entry == WRITE) {
         answer_write();
+    } else if (entry == TRACE) {
+        answer_trace((uint8_t)action);
     } else {
         answer_call(entry, (uint8_t)action);
     }

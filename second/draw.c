@@ -2276,10 +2276,226 @@ static void draw_write(struct session *s)
     }
 }
 
+/* ------------------------------------------------------------------ */
+/* Trace runs.                                                          */
+
+enum { MAX_TRACE = 300 };
+
+struct trace {
+    unsigned length;
+    uint8_t actions[MAX_TRACE];
+    unsigned calls;               /* made on the way, one that is refused 13 too */
+    size_t before[MAX_TRACE + 2]; /* event bytes written when each begins */
+};
+
+static unsigned draw_trace_length(void)
+{
+    switch (pick_weighted((const unsigned[]){8, 15, 40, 35, 2}, 5)) {
+    case 0:
+        return 0;
+    case 1:
+        return between(1, 3);
+    case 2:
+        return between(4, 12);
+    case 3:
+        return between(13, 40);
+    default: /* more than a byte counts, if nothing stops it */
+        return between(250, MAX_TRACE);
+    }
+}
+
+/* Actions from 0 to 63, mostly regulated ones; in some traces one above. */
+static void draw_actions(const struct session *s, struct trace *t)
+{
+    static const uint8_t ABOVE[] = {64, 65, 127, 128, 192, 255};
+    const uint64_t set = s->sets.regulated.bits;
+    const unsigned percent = chance(50) ? 97 : between(60, 100);
+
+    t->length = draw_trace_length();
+    for (unsigned i = 0; i < t->length; i++) {
+        t->actions[i] = (uint8_t)(set != 0 && chance(percent) ? member(set) : below(64));
+    }
+    if (t->length > 0 && chance(20)) {
+        const unsigned at = below(t->length);
+        t->actions[at] = (uint8_t)(chance(70) ? ABOVE[below(6)] : between(64, 255));
+    }
+}
+
+/* Makes the calls of a run one by one, to know what each finds written before it. */
+static void walk(const struct session *s, struct trace *t)
+{
+    static uint8_t state[GUARD_STATE_BYTES], events[GUARD_EVENT_BYTES];
+    const struct file *f = &s->file;
+    size_t written = 0;
+    guard_answer answer =
+        guard_open(f->bytes, f->length, state, sizeof state, events, sizeof events);
+
+    t->calls = 0;
+    t->before[t->calls++] = written;
+    for (unsigned i = 0; i <= t->length; i++) { /* the last is closing */
+        if (answer.refusal != 0 || answer.status == GUARD_HALTED) {
+            return;
+        }
+        written += 2u * answer.events;
+        t->before[t->calls++] = written;
+        if (i < t->length) {
+            answer = guard_offer(f->bytes, f->length, state, sizeof state, events,
+                                 sizeof events, t->actions[i]);
+        }
+    }
+}
+
+/* What one call needs, mostly one that finds events written. */
+static size_t draw_need(const struct trace *t)
+{
+    size_t before = 0;
+
+    for (unsigned tries = 0; before == 0 && tries < 3; tries++) {
+        before = t->before[below(t->calls)];
+    }
+    return before + GUARD_EVENT_BYTES;
+}
+
+/* A byte or an event less than a need; seldom less than opening's. */
+static size_t draw_short(size_t need)
+{
+    return need > GUARD_EVENT_BYTES || chance(30) ? need - between(1, 2) : need + below(3);
+}
+
+/* Room for the events of a run: enough for every call, just enough, a byte or an event
+ * short of the last call's need or of any, just enough for any, or too little to open. */
+static size_t draw_run_room(const struct trace *t)
+{
+    static const unsigned FEW[] = {0, 1, 2, 256, 510, 511};
+    const size_t last = t->before[t->calls - 1] + GUARD_EVENT_BYTES;
+    const size_t any = draw_need(t);
+
+    switch (pick_weighted((const unsigned[]){36, 15, 17, 20, 6, 6}, 6)) {
+    case 0:
+        return last + between(1, chance(50) ? 3 : 600);
+    case 1:
+        return last;
+    case 2:
+        return draw_short(last);
+    case 3:
+        return draw_short(any);
+    case 4:
+        return any + below(3);
+    default:
+        return chance(60) ? FEW[below(6)] : below(GUARD_EVENT_BYTES);
+    }
+}
+
+static void write_run(const struct session *s, const struct trace *t, uint8_t start)
+{
+    static uint8_t both[ROOM + MAX_TRACE];
+
+    memcpy(both, s->file.bytes, s->file.length);
+    memcpy(both + s->file.length, t->actions, t->length);
+    putchar(TRACE);
+    write_field(both, s->file.length + t->length);
+    write_field(s->state, s->state_length);
+    write_field(out.bytes, out.length);
+    putchar(start);
+}
+
+/* One run of the file as it is, with a trace or without one. */
+static void call_trace(struct session *s, bool with_actions)
+{
+    static struct trace t;
+    static const unsigned STATES[] = {255, 257, 0, 1, 8, 248, 249, 264};
+    uint8_t start = 0;
+
+    if (calls_left == 0) {
+        return;
+    }
+    calls_left--;
+    draw_actions(s, &t);
+    t.length = with_actions ? t.length : 0;
+    walk(s, &t);
+    fresh_state(s);
+    s->state_length = GUARD_STATE_BYTES;
+    size_t room = draw_run_room(&t);
+    if (chance(6)) {
+        s->state_length = STATES[below(8)];
+        room = chance(70) ? room : below(GUARD_EVENT_BYTES);
+    }
+    out.length = room > MAX_FIELD ? MAX_FIELD : room;
+    pattern(out.bytes, out.length);
+    if (chance(50)) {
+        start = (uint8_t)(chance(85) ? between(1, 6) : below(256));
+    }
+    write_run(s, &t, start);
+}
+
+/* A run of a policy that is mostly refused: with a broken rule; aimed at 9 and 10; with
+ * loose leaves; about as long as a policy can be; a few bytes of a good one, or of any. */
+static void trace_refused(struct session *s, const struct file *good)
+{
+    struct file *f = &s->file;
+
+    switch (pick_weighted((const unsigned[]){56, 12, 12, 6, 14}, 5)) {
+    case 0:
+        break_good(f, good);
+        break;
+    case 1:
+        grow_wide(s);
+        break;
+    case 2:
+        grow_loose(s);
+        break;
+    case 3:
+        pattern(f->bytes + f->length, ROOM - f->length);
+        f->length = between(6640, 6660);
+        put(f->bytes, chance(70) ? between(6644, 6650) : between(6647, 65535), 2);
+        break;
+    default:
+        f->length = chance(50) ? below(8) : below((unsigned)good->length);
+        if (chance(30)) {
+            noise(f->bytes, f->length);
+        }
+        if (f->length >= 2 && chance(40)) {
+            fix_length(f);
+        }
+        break;
+    }
+    call_trace(s, chance(70));
+}
+
+/* A policy that opens halted. */
+static void draw_halted(struct session *s)
+{
+    static uint8_t events[GUARD_EVENT_BYTES];
+    guard_answer answer;
+    unsigned tries = 0;
+
+    do {
+        draw_passing(s);
+        answer = guard_open(s->file.bytes, s->file.length, s->state, GUARD_STATE_BYTES, events,
+                            sizeof events);
+    } while (answer.status != GUARD_HALTED && tries++ < 100);
+}
+
+static void draw_trace(struct session *s)
+{
+    if (chance(5)) {
+        draw_halted(s);
+    } else {
+        draw_good(s);
+    }
+    const struct file good = s->file;
+    for (unsigned times = between(1, 3); times > 0; times--) {
+        call_trace(s, true);
+    }
+    if (chance(30)) {
+        trace_refused(s, &good);
+    }
+}
+
 int main(int argc, char **argv)
 {
     static struct session s;
-    static const unsigned SHARES[] = {38, 23, 14, 20, 9, 4, 24, 15};
+    static const unsigned SHARES[] = {38, 23, 14, 20, 9, 4, 24, 15, 8};
 
     if (argc != 3) {
         fputs("draw SEED COUNT\n", stderr);
@@ -2289,7 +2505,7 @@ int main(int argc, char **argv)
     seed_word = seed_word == 0 ? 1 : seed_word;
     calls_left = strtoul(argv[2], NULL, 10);
     while (calls_left > 0) {
-        switch (pick_weighted(SHARES, 8)) {
+        switch (pick_weighted(SHARES, 9)) {
         case 0:
             draw_run(&s);
             break;
@@ -2311,8 +2527,11 @@ int main(int argc, char **argv)
         case 6:
             draw_write(&s);
             break;
-        default:
+        case 7:
             draw_loose(&s);
+            break;
+        default:
+            draw_trace(&s);
             break;
         }
     }

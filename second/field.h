@@ -10,7 +10,7 @@
 
 /* A call: entry (1), three fields, action (1). A field: its length (2), big-endian,
  * and as many bytes. */
-enum { CHECK = 0, OPEN = 1, OFFER = 2, CLOSE = 3, WRITE = 4 };
+enum { CHECK = 0, OPEN = 1, OFFER = 2, CLOSE = 3, WRITE = 4, TRACE = 5 };
 enum { MAX_FIELD = 65535, MARGIN = 64, MARK = 0xA5 };
 
 struct field {
@@ -31,6 +31,29 @@ static inline bool read_field(struct field *field)
     memset(field->ahead, MARK, MARGIN);
     memset(field->bytes + field->length, MARK, MARGIN);
     return fread(field->bytes, 1, field->length, stdin) == field->length;
+}
+
+/* Where the policy ends in the first field of a trace run; the trace is behind it. As
+ * in guardrun's input "the first two bytes say how many bytes, at most 6,646 taken";
+ * these two are there in any case, and no more are taken than the field has. */
+static inline size_t policy_end(const struct field *field)
+{
+    enum { MOST = 6646 };
+    size_t end;
+
+    if (field->length < 2) {
+        return field->length;
+    }
+    end = (size_t)field->bytes[0] << 8 | field->bytes[1];
+    end = end < 2 ? 2 : end > MOST ? MOST : end;
+    return end < field->length ? end : field->length;
+}
+
+/* Where all counts of a trace run's tally begin, by its action byte: at 0, or so many
+ * below 4,294,967,296. */
+static inline uint32_t tally_start(uint8_t action)
+{
+    return UINT32_C(0) - action;
 }
 
 /* No byte beside the field has been written since it was read. */

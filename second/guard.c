@@ -1,14 +1,14 @@
-/* guard.c: a policy guard written by hand from 01, and 02's writer, places and count; their sentences stand in quotation marks. */
+/* guard.c: a policy guard written by hand from 01, and 02's writer, places, count and trace run; their sentences stand in quotation marks. */
 #include "guard.h"
 
 #include <stdbool.h>
 #include <string.h>
 
-#ifdef GUARD_TALLY
-unsigned long guard_tally[8];
-#define TALLY(index) (guard_tally[(index)]++)
+#ifdef GUARD_GIVEN
+unsigned long guard_given[8];
+#define GIVEN(index) (guard_given[(index)]++)
 #else
-#define TALLY(index) ((void)0)
+#define GIVEN(index) ((void)0)
 #endif
 
 /* ------------------------------------------------------------------ */
@@ -52,7 +52,7 @@ static inline bool set_has(guard_set a, uint8_t action)
  * keeps it; only facts that the file does not hold are kept beside it. */
 
 enum { HEADER_BYTES = 6, NODE_BYTES = 16, STEP_BYTES = 12, RECORD_BYTES = 8, VERSION = 1 };
-enum { MAX_STEPS = 512, MAX_LEAF_STEPS = 64, MAX_SPREAD = 255, MAX_ACTION = 63 };
+enum { MAX_LEAF_STEPS = 64, MAX_SPREAD = 255, MAX_ACTION = 63 };
 
 enum node_kind {
     LEAF = 1,
@@ -131,7 +131,7 @@ static inline bool is_and(unsigned kind)
 /* "nodes n, 1 to 31", "steps m, 0 to 512" */
 static bool in_range(size_t n, size_t m)
 {
-    return n >= 1 && n <= GUARD_MAX_NODES && m <= MAX_STEPS;
+    return n >= 1 && n <= GUARD_MAX_NODES && m <= GUARD_MAX_STEPS;
 }
 
 /* "Length is 6 + 16n + 12m, at most 6,646." */
@@ -884,7 +884,8 @@ struct run {
     uint8_t *state;
     uint8_t *events;
     uint16_t count;
-    uint32_t asked; /* bit k: node k was asked and its AFTER is still to come */
+    uint32_t asked;     /* bit k: node k was asked and its AFTER is still to come */
+    guard_tally *tally; /* 02, Req 05: NULL but in a trace run */
 };
 
 static enum outcome run_node(struct run *g, unsigned k, enum phase phase, uint8_t action);
@@ -957,7 +958,7 @@ static bool feed(struct run *g, unsigned k, uint8_t action)
     if (outcome == STOPPED) {
         return false;
     }
-    TALLY((node[0] == SEQUENTIAL_OR ? 3u : 0u) + (unsigned)outcome);
+    GIVEN((node[0] == SEQUENTIAL_OR ? 3u : 0u) + (unsigned)outcome);
     if (outcome == ACCEPTED || (outcome == HALTS && node[0] == SEQUENTIAL_OR)) {
         if (!give_out(g, k, action)) {
             return false;
@@ -967,7 +968,7 @@ static bool feed(struct run *g, unsigned k, uint8_t action)
         return false;
     }
     if (read_status(g, k) != GUARD_RUNNING) {
-        TALLY(node[0] == SEQUENTIAL_OR ? 7u : 6u);
+        GIVEN(node[0] == SEQUENTIAL_OR ? 7u : 6u);
         return false;
     }
     return true;
@@ -988,6 +989,21 @@ static bool give_out(struct run *g, unsigned k, uint8_t action)
     return true;
 }
 
+/* "counts stop at 4,294,967,295" */
+static inline void count_up(uint32_t *count)
+{
+    *count += *count < UINT32_MAX;
+}
+
+/* 02, Req 05: "for each step how often it ran". Its number in the tally is that in the
+ * whole file. Where no tally is lent, a step pays for one test. */
+static inline void count_step(const struct run *g, const uint8_t *step)
+{
+    if (g->tally != NULL) {
+        count_up(&g->tally->steps[(size_t)(step - g->p->steps) / STEP_BYTES]);
+    }
+}
+
 /* Runs a leaf from an offset to where its phase ends: a next, ok, sup, end or
  * halt. The check's modes see to it that ok, sup and acase are met before the
  * verdict only, and a next never before the verdict or when closing. After ok
@@ -1002,39 +1018,57 @@ static enum outcome run_leaf(struct run *g, unsigned leaf, unsigned offset, uint
     for (;;) {
         const uint8_t *step = own + (size_t)STEP_BYTES * offset;
         switch (step[0]) {
-        case NEXT:
+        case NEXT: /* not counted: it hasn't run until it is left */
             put_record(record, GUARD_RUNNING, (uint8_t)offset, counter);
             return ACCEPTED;
         case OK:
+            count_step(g, step);
             put_record(record, GUARD_RUNNING, step[STEP_FIRST], counter);
             return ACCEPTED;
         case SUP:
+            count_step(g, step);
             put_record(record, GUARD_RUNNING, step[STEP_FIRST], counter);
             return SUPPRESSED;
         case INS:
+            count_step(g, step);
             if (!give_out(g, leaf, step[STEP_ACTION])) {
                 return STOPPED;
             }
             offset = step[STEP_FIRST];
             break;
         case ACASE:
+            count_step(g, step);
             offset = set_has((guard_set){be64(step + STEP_OPERAND)}, action)
                          ? step[STEP_FIRST]
                          : step[STEP_SECOND];
             break;
         case SPEND: /* 02, Req 01: "go to its yes target when the counter is at least n" */
+            count_step(g, step);
             amount = be32(step + STEP_OPERAND + 4);
             offset = counter >= amount ? step[STEP_FIRST] : step[STEP_SECOND];
             counter -= counter >= amount ? amount : 0;
             break;
         case END: /* "end (ended, accepted)" */
+            count_step(g, step);
             put_record(record, GUARD_ENDED, 0, 0);
             return ACCEPTED;
         default: /* HALT */
+            count_step(g, step);
             put_record(record, GUARD_HALTED, 0, 0);
             return HALTS;
         }
     }
+}
+
+/* Takes a leaf from the next where it waits to one of its targets: "a next runs when
+ * it is left". */
+static inline enum outcome leave_next(struct run *g, unsigned leaf, unsigned target,
+                                      uint8_t action)
+{
+    const uint8_t *next = step_at(g->p, leaf, record_at(g, leaf)[RECORD_OFFSET]);
+
+    count_step(g, next);
+    return run_leaf(g, leaf, next[target], action);
 }
 
 /* "Before: go from take"; "After: go on"; "Opening is an "after" phase from
@@ -1043,18 +1077,17 @@ static enum outcome run_leaf(struct run *g, unsigned leaf, unsigned offset, uint
 static enum outcome leaf_phase(struct run *g, unsigned leaf, enum phase phase, uint8_t action)
 {
     uint8_t *record = record_at(g, leaf);
-    const unsigned offset = record[RECORD_OFFSET];
 
     switch (phase) {
     case OPENING:
         put_record(record, GUARD_RUNNING, 0, be32(node_at(g->p, leaf) + NODE_START));
         return run_leaf(g, leaf, 0, action);
     case BEFORE:
-        return run_leaf(g, leaf, step_at(g->p, leaf, offset)[STEP_FIRST], action);
+        return leave_next(g, leaf, STEP_FIRST, action);
     case AFTER:
-        return run_leaf(g, leaf, offset, action);
+        return run_leaf(g, leaf, record[RECORD_OFFSET], action);
     default:
-        return run_leaf(g, leaf, step_at(g->p, leaf, offset)[STEP_SECOND], action);
+        return leave_next(g, leaf, STEP_SECOND, action);
     }
 }
 
@@ -1161,6 +1194,48 @@ static guard_answer settle(struct run *g)
 }
 
 /* ------------------------------------------------------------------ */
+/* What a call does once nothing can be refused any more. Its run is new, but for the
+ * state.                                                               */
+
+static inline guard_answer open_root(struct run *g)
+{
+    memset(g->state, 0, GUARD_STATE_BYTES);
+    for (unsigned k = 0; k < g->p->n; k++) {
+        *record_at(g, k) = GUARD_RUNNING; /* "not yet opened counts as running" */
+    }
+    (void)run_node(g, 0, OPENING, 0);
+    return settle(g);
+}
+
+static inline guard_answer offer_to_root(struct run *g, uint8_t action)
+{
+    if (!is_asked(g, 0, action)) {
+        /* "At the root, an action not regulated is accepted with no change. So is
+         * any action once the root has ended." */
+        put_event(g, GUARD_ACCEPTED, action);
+        return (guard_answer){.status = *record_at(g, 0), .events = g->count};
+    }
+    const enum outcome verdict = run_node(g, 0, BEFORE, action);
+    if (verdict != HALTS) { /* "a halt before the verdict has none" */
+        put_event(g, verdict == SUPPRESSED ? GUARD_SUPPRESSED : GUARD_ACCEPTED, action);
+        if (is_running(g, 0)) {
+            (void)run_node(g, 0, AFTER, action);
+        }
+    }
+    return settle(g);
+}
+
+static inline guard_answer close_root(struct run *g)
+{
+    if (!is_running(g, 0)) {
+        /* "Closing a decided root emits nothing and answers its status." */
+        return (guard_answer){.status = *record_at(g, 0)};
+    }
+    (void)run_node(g, 0, CLOSING_DOWN, 0);
+    return settle(g);
+}
+
+/* ------------------------------------------------------------------ */
 /* The entry points. "A refusal returns that number and zero events; state and
  * event buffers keep every byte."                                      */
 
@@ -1210,13 +1285,8 @@ guard_answer guard_open(const uint8_t *policy, size_t policy_length,
     if (refusal != 0) {
         return refuse(&p, refusal);
     }
-    struct run g = {&p, state, events, 0, 0};
-    memset(state, 0, GUARD_STATE_BYTES);
-    for (unsigned k = 0; k < p.n; k++) {
-        *record_at(&g, k) = GUARD_RUNNING; /* "not yet opened counts as running" */
-    }
-    (void)run_node(&g, 0, OPENING, 0);
-    return settle(&g);
+    struct run g = {&p, state, events, 0, 0, NULL};
+    return open_root(&g);
 }
 
 guard_answer guard_offer(const uint8_t *policy, size_t policy_length,
@@ -1236,21 +1306,8 @@ guard_answer guard_offer(const uint8_t *policy, size_t policy_length,
     if (*saved_record(state, 0) == GUARD_HALTED) {
         return refuse(&p, 14); /* "the root has halted" */
     }
-    struct run g = {&p, state, events, 0, 0};
-    if (!is_asked(&g, 0, action)) {
-        /* "At the root, an action not regulated is accepted with no change. So is
-         * any action once the root has ended." */
-        put_event(&g, GUARD_ACCEPTED, action);
-        return (guard_answer){.status = *record_at(&g, 0), .events = g.count};
-    }
-    const enum outcome verdict = run_node(&g, 0, BEFORE, action);
-    if (verdict != HALTS) { /* "a halt before the verdict has none" */
-        put_event(&g, verdict == SUPPRESSED ? GUARD_SUPPRESSED : GUARD_ACCEPTED, action);
-        if (is_running(&g, 0)) {
-            (void)run_node(&g, 0, AFTER, action);
-        }
-    }
-    return settle(&g);
+    struct run g = {&p, state, events, 0, 0, NULL};
+    return offer_to_root(&g, action);
 }
 
 guard_answer guard_close(const uint8_t *policy, size_t policy_length,
@@ -1264,13 +1321,8 @@ guard_answer guard_close(const uint8_t *policy, size_t policy_length,
     if (refusal != 0) {
         return refuse(&p, refusal);
     }
-    if (*saved_record(state, 0) != GUARD_RUNNING) {
-        /* "Closing a decided root emits nothing and answers its status." */
-        return (guard_answer){.status = *saved_record(state, 0)};
-    }
-    struct run g = {&p, state, events, 0, 0};
-    (void)run_node(&g, 0, CLOSING_DOWN, 0);
-    return settle(&g);
+    struct run g = {&p, state, events, 0, 0, NULL};
+    return close_root(&g);
 }
 
 /* 02, Req 04: "The panel asks after every command". There is no policy to hold the
@@ -1281,6 +1333,100 @@ guard_count guard_running_leaves(const uint8_t *state, size_t state_length)
         return (guard_count){.refusal = 11};
     }
     return (guard_count){.leaves = state[FRONT_COUNT]};
+}
+
+/* ------------------------------------------------------------------ */
+/* 02, Req 05: "Run a policy over last week's command trace." The policy is checked
+ * once: its bytes stay as they are, and every state after the first is one that a
+ * call has left, so that no later call could be refused 1 to 12.       */
+
+struct tracing {
+    struct run g;        /* its events: where the last call's ended */
+    size_t left;         /* event bytes from there on */
+    guard_traced so_far; /* the answer if the run stopped here */
+};
+
+/* "15, tried last, ... when under 512 event bytes are left before a call" */
+static bool has_room(const struct tracing *t)
+{
+    return t->left >= GUARD_EVENT_BYTES;
+}
+
+/* "for each action how often it was accepted, suppressed or inserted": counted by its
+ * events, so that an insert that a right side has taken away doesn't count. */
+static void count_event(guard_tally *tally, const uint8_t *event)
+{
+    uint32_t *const counts[] = {
+        [GUARD_ACCEPTED] = tally->accepted,
+        [GUARD_SUPPRESSED] = tally->suppressed,
+        [GUARD_INSERTED] = tally->inserted,
+    };
+
+    count_up(&counts[event[0]][event[1]]);
+}
+
+/* A call is over; the next one's events go to "the part that begins where the last
+ * ended". */
+static void go_on(struct tracing *t, guard_answer answer)
+{
+    for (unsigned i = 0; i < answer.events; i++) {
+        count_event(t->g.tally, t->g.events + 2u * i);
+    }
+    t->g.events += 2u * answer.events;
+    t->g.count = 0;
+    t->g.asked = 0;
+    t->left -= 2u * answer.events;
+    t->so_far.events += answer.events;
+    t->so_far.status = answer.status;
+}
+
+/* The trace's actions and closing. "The run stops at the first refusal or when the
+ * root halts". Answers the refusal, or 0. */
+static uint8_t run_trace(struct tracing *t, const uint8_t *trace, size_t trace_length)
+{
+    for (size_t i = 0; i < trace_length && t->so_far.status != GUARD_HALTED; i++) {
+        if (trace[i] > MAX_ACTION) {
+            return 13;
+        }
+        if (!has_room(t)) {
+            return 15;
+        }
+        go_on(t, offer_to_root(&t->g, trace[i]));
+        t->so_far.judged++; /* "a halting one too" */
+    }
+    if (t->so_far.status == GUARD_HALTED) {
+        return 0;
+    }
+    if (!has_room(t)) {
+        return 15;
+    }
+    go_on(t, close_root(&t->g));
+    return 0;
+}
+
+guard_traced guard_trace(const uint8_t *policy, size_t policy_length,
+                         const uint8_t *trace, size_t trace_length,
+                         uint8_t *state, size_t state_length,
+                         uint8_t *events, size_t events_length, guard_tally *tally)
+{
+    struct policy p;
+    guard_set effect;
+    struct tracing t = {.g = {&p, state, events, 0, 0, tally}, .left = events_length};
+    uint8_t refusal = check_policy(&p, policy, policy_length, &effect);
+
+    if (refusal == 0 && state_length != GUARD_STATE_BYTES) {
+        refusal = 11;
+    }
+    if (refusal == 0 && !has_room(&t)) {
+        refusal = 15;
+    }
+    if (refusal != 0) {
+        return (guard_traced){.refusal = refusal, .place = place_of(&p, refusal)};
+    }
+    t.so_far.opened = true;
+    go_on(&t, open_root(&t.g));
+    t.so_far.refusal = run_trace(&t, trace, trace_length);
+    return t.so_far;
 }
 
 /* ------------------------------------------------------------------ */

@@ -1,4 +1,4 @@
-/* guard.h: the four entry points of the policy guard of 01, and the writer and the count of 02, over plain buffers with lengths. */
+/* guard.h: the four entry points of the policy guard of 01, and the writer, the count and the trace run of 02, over plain buffers with lengths. */
 #ifndef GUARD_H
 #define GUARD_H
 
@@ -7,6 +7,8 @@
 #include <stdint.h>
 
 #define GUARD_MAX_NODES 31u
+#define GUARD_MAX_STEPS 512u
+#define GUARD_ACTIONS 64u /* "Actions are numbers 0 to 63." */
 #define GUARD_STATE_BYTES 256u /* 02, Req 04: "8 new bytes in front", then 8 per node number */
 #define GUARD_EVENT_BYTES 512u /* "event buffer is under 512" is refused */
 
@@ -71,6 +73,30 @@ typedef struct {
     uint8_t leaves;
 } guard_count;
 
+/* 02, Req 05: "for each step how often it ran, for each action how often it was
+ * accepted, suppressed or inserted; counts stop at 4,294,967,295". Steps are numbered
+ * over the whole file. */
+typedef struct {
+    uint32_t steps[GUARD_MAX_STEPS];
+    uint32_t accepted[GUARD_ACTIONS];
+    uint32_t suppressed[GUARD_ACTIONS];
+    uint32_t inserted[GUARD_ACTIONS];
+} guard_tally;
+
+/* How a trace run came out. refusal is that of the call that stopped it: 1 to 11 or 15
+ * of opening, 13 or 15 of an action, 15 of closing; it is 0 where none did. With a
+ * refused opening the policy was not opened and judged, events and status are 0; else
+ * they are what the calls before the refused one left: "the number of actions judged,
+ * a halting one too", the events written in all, the root's status. */
+typedef struct {
+    uint8_t refusal;
+    bool opened;
+    uint8_t status;
+    guard_place place;
+    uint32_t judged;
+    uint32_t events;
+} guard_traced;
+
 /* A buffer that is written to must not overlap another. A buffer of length 0 may
  * be a null pointer. */
 
@@ -102,11 +128,22 @@ guard_written guard_write(const uint8_t *nodes, size_t nodes_length,
                           const uint8_t *steps, size_t steps_length,
                           uint8_t *out, size_t out_length);
 
-#ifdef GUARD_TALLY
+/* "Run opening, the trace's actions and closing, and write all events one after
+ * another into one lent buffer"; the trace is one byte per action. What the state held
+ * is not read; afterwards it is what the last call that wasn't refused left, and so are
+ * events and tally: "what was written before stays". A refused opening writes nothing.
+ * The tally is brought up to date, not cleared. A trace and a buffer of events are each
+ * shorter than 4 GiB. */
+guard_traced guard_trace(const uint8_t *policy, size_t policy_length,
+                         const uint8_t *trace, size_t trace_length,
+                         uint8_t *state, size_t state_length,
+                         uint8_t *events, size_t events_length, guard_tally *tally);
+
+#ifdef GUARD_GIVEN
 /* Counts of inserts given to a right side, for the statistics of a draw only:
  * kind 5 accepted, suppressed, halted; kind 7 the same; then nodes decided by
  * an insert, kind 5 and kind 7. */
-extern unsigned long guard_tally[8];
+extern unsigned long guard_given[8];
 #endif
 
 #endif

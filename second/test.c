@@ -1,5 +1,5 @@
 /* test.c: 01's P1 to P11, its guardrun example and some edges, asserted against the guard; the places of refusals; the count in the state; the
- * writer, also on files it is named. */
+ * trace run and the writer, both also on files it is named. */
 #include "guard.h"
 
 #include <stdio.h>
@@ -1108,8 +1108,482 @@ static void refuses_lengths(void)
          "refused 12"); /* an old state in 256 bytes */
 }
 
+/* ------------------------------------------------------------------ */
+/* 02, Req 05: "Run opening, the trace's actions and closing". The numbers in these
+ * cases are written by hand from 01 and 02.                            */
+
+/* What is lent to a run, and how it came out as text. */
+static struct {
+    uint8_t state[300];
+    uint8_t events[6000];
+    guard_tally tally;
+    char text[32768];
+} r;
+
+/* The state may hold anything: it isn't read. */
+static void lend_buffers(uint8_t state)
+{
+    memset(r.state, state, sizeof r.state);
+    memset(r.events, 0xA5, sizeof r.events);
+}
+
+static void lend_tally(uint32_t counts)
+{
+    for (unsigned i = 0; i < 512; i++) {
+        r.tally.steps[i] = counts;
+    }
+    for (unsigned a = 0; a < 64; a++) {
+        r.tally.accepted[a] = r.tally.suppressed[a] = r.tally.inserted[a] = counts;
+    }
+}
+
+/* The run as text: events, the root's status, the actions judged and the refusal, if
+ * there is one; a refused opening is the refusal alone. */
+static const char *run_text(guard_traced t)
+{
+    char *at = r.text;
+
+    if (!t.opened) {
+        EXPECT(t.refusal != 0 && t.judged == 0 && t.events == 0 && t.status == 0);
+        sprintf(at, "refused %s", named(t.refusal, t.place));
+        return r.text;
+    }
+    EXPECT(!t.place.given && t.status == r.state[8]);
+    for (uint32_t i = 0; i < t.events; i++) {
+        at += sprintf(at, "%c%u ", "?asi"[r.events[2 * i]], r.events[2 * i + 1]);
+    }
+    for (size_t i = 2 * (size_t)t.events; i < sizeof r.events; i++) {
+        EXPECT(r.events[i] == 0xA5);
+    }
+    at += sprintf(at, "=%u judged %u", t.status, (unsigned)t.judged);
+    if (t.refusal != 0) {
+        sprintf(at, " refused %u", t.refusal);
+    }
+    return r.text;
+}
+
+#define ACTIONS(...) (const uint8_t[]){__VA_ARGS__}, sizeof((const uint8_t[]){__VA_ARGS__})
+#define NO_ACTIONS NULL, 0
+
+/* A run of the file in s whose tally goes on from where it is. */
+static const char *run_on(size_t room, const uint8_t *trace, size_t length)
+{
+    lend_buffers(0x5A);
+    return run_text(guard_trace(s.file.bytes, s.file.length, trace, length, r.state,
+                                GUARD_STATE_BYTES, r.events, room, &r.tally));
+}
+
+static const char *run(size_t room, const uint8_t *trace, size_t length)
+{
+    lend_tally(0);
+    return run_on(room, trace, length);
+}
+
+/* The counts that aren't zero: steps by number, then actions accepted, suppressed and
+ * inserted. */
+static const char *tallied(void)
+{
+    const uint32_t *counts[] = {r.tally.accepted, r.tally.suppressed, r.tally.inserted};
+    char *at = r.text;
+
+    for (unsigned i = 0; i < 512; i++) {
+        if (r.tally.steps[i] != 0) {
+            at += sprintf(at, " %u:%u", i, (unsigned)r.tally.steps[i]);
+        }
+    }
+    for (unsigned i = 0; i < 3; i++) {
+        for (unsigned a = 0; a < 64; a++) {
+            if (counts[i][a] != 0) {
+                at += sprintf(at, " %c%u:%u", "asi"[i], a, (unsigned)counts[i][a]);
+            }
+        }
+    }
+    *at = '\0';
+    return at == r.text ? at : r.text + 1; /* but for the first space */
+}
+
+/* One leaf. A next is counted when it is left: L's by every 2, and by closing. */
+static void traces_one_leaf(void)
+{
+    one(&s.file, 'L');
+    SAYS(run(600, ACTIONS(1, 2)), "a1 a2 =2 judged 2");
+    SAYS(tallied(), "0:2 1:1 2:1 4:1 a1:1 a2:1");
+    SAYS(run(600, NO_ACTIONS), "=2 judged 0"); /* opening and closing alone */
+    SAYS(tallied(), "0:1 4:1");
+    SAYS(run(512, NO_ACTIONS), "=2 judged 0");
+    /* the fourth 2 halts: it is judged, and nothing after it is looked at */
+    SAYS(run(600, ACTIONS(2, 2, 2, 2)), "a2 a2 a2 =5 judged 4");
+    SAYS(tallied(), "0:4 1:4 2:3 3:1 a2:3");
+    SAYS(run(600, ACTIONS(2, 2, 2, 2, 64, 2)), "a2 a2 a2 =5 judged 4");
+    SAYS(tallied(), "0:4 1:4 2:3 3:1 a2:3");
+    SAYS(run(518, ACTIONS(2, 2, 2, 2)), "a2 a2 a2 =5 judged 4"); /* 512 are left for it */
+    SAYS(run(517, ACTIONS(2, 2, 2, 2)), "a2 a2 a2 =1 judged 3 refused 15");
+    SAYS(tallied(), "0:3 1:3 2:3 a2:3");
+    memset(r.events, 0xA5, sizeof r.events); /* that state fits, and isn't read either */
+    SAYS(run_text(guard_trace(s.file.bytes, s.file.length, ACTIONS(2, 2, 2), r.state, 256,
+                              r.events, 600, &r.tally)), "a2 a2 a2 =2 judged 3");
+
+    one(&s.file, 'V');
+    SAYS(run(600, ACTIONS(4)), "s4 i3 i3 =2 judged 1");
+    SAYS(tallied(), "0:2 1:1 2:1 3:1 4:1 s4:1 i3:2");
+    SAYS(run_on(600, ACTIONS(4, 9)), "s4 i3 a9 i3 =2 judged 2"); /* not cleared */
+    SAYS(tallied(), "0:4 1:2 2:2 3:2 4:2 a9:1 s4:2 i3:4");
+
+    with_acase(&s.file, BIT(1));
+    SAYS(run(600, ACTIONS(0, 1, 1)), "s0 a1 a1 =2 judged 3");
+    SAYS(tallied(), "0:4 1:3 2:2 3:1 4:1 a1:2 s0:1");
+}
+
+/* A leaf whose opening inserts 7 and goes on to a next, or halts. */
+static void starts_with_7(struct file *f, bool halts)
+{
+    start(f, 1);
+    node(f, 0, 1, 0, 0, halts ? 2 : 4, 0, BIT(1));
+    step(f, INS, 7, 1, 0, 0);
+    if (halts) {
+        step(f, HALT, 0, 0, 0, 0);
+    } else {
+        step(f, NEXT, 0, 2, 3, 0);
+        step(f, OK, 0, 1, 0, 0);
+        step(f, END, 0, 0, 0, 0);
+    }
+    finish(f);
+}
+
+/* "when the root halts", also in opening: no closing and no refusal. A root that has
+ * ended goes on. */
+static void traces_decided_roots(void)
+{
+    one(&s.file, 'U');
+    SAYS(run(512, NO_ACTIONS), "=5 judged 0");
+    SAYS(run(512, ACTIONS(1, 2)), "=5 judged 0");
+    SAYS(run(512, ACTIONS(64)), "=5 judged 0");
+    SAYS(tallied(), "");
+    SAYS(run(511, ACTIONS(64)), "refused 15");
+    starts_with_7(&s.file, true);
+    SAYS(run(512, ACTIONS(1)), "i7 =5 judged 0"); /* 510 are left, and no call comes */
+    SAYS(tallied(), "0:1 1:1 i7:1");
+    starts_with_7(&s.file, false);
+    SAYS(run(514, NO_ACTIONS), "i7 =2 judged 0");
+    SAYS(tallied(), "0:1 1:1 3:1 i7:1");
+    SAYS(run(513, NO_ACTIONS), "i7 =1 judged 0 refused 15");
+    SAYS(tallied(), "0:1 i7:1");
+    SAYS(run(513, ACTIONS(1)), "i7 =1 judged 0 refused 15");
+    SAYS(run(513, ACTIONS(64)), "i7 =1 judged 0 refused 13");
+
+    one(&s.file, 'T');
+    SAYS(run(600, ACTIONS(5, 63)), "a5 a63 =2 judged 2");
+    SAYS(tallied(), "a5:1 a63:1");
+    SAYS(run(516, ACTIONS(5, 63)), "a5 a63 =2 judged 2");
+    SAYS(run(515, ACTIONS(5, 63)), "a5 a63 =2 judged 2 refused 15"); /* closing emits nothing */
+    SAYS(run(514, ACTIONS(5, 63)), "a5 a63 =2 judged 2 refused 15");
+    SAYS(run(513, ACTIONS(5, 63)), "a5 =2 judged 1 refused 15");
+    SAYS(run(512, ACTIONS(5, 64)), "a5 =2 judged 1 refused 13");
+    two(&s.file, 6, 'L', 'T'); /* P9 */
+    SAYS(run(600, ACTIONS(2, 2, 2, 2)), "a2 a2 a2 a2 =4 judged 4");
+    SAYS(tallied(), "a2:4");
+}
+
+/* Refusals of opening, an action and closing, and their order: 15 is "tried last". */
+static void traces_refused(void)
+{
+    one(&s.file, 'V');
+    SAYS(run(516, ACTIONS(4)), "s4 i3 i3 =2 judged 1");
+    SAYS(run(515, ACTIONS(4)), "s4 i3 =1 judged 1 refused 15"); /* at closing */
+    SAYS(tallied(), "0:1 1:1 2:1 s4:1 i3:1");
+    EXPECT(r.state[7] == 1 && r.state[8] == 1 && r.state[9] == 0); /* the leaf waits at 0 */
+    SAYS(run(515, ACTIONS(4, 4)), "s4 i3 =1 judged 1 refused 15"); /* at an action */
+    SAYS(run(512, ACTIONS(4, 64)), "s4 i3 =1 judged 1 refused 13"); /* 508 are left */
+    SAYS(run(600, ACTIONS(64)), "=1 judged 0 refused 13"); /* "stops at the first refusal" */
+    SAYS(run(600, ACTIONS(255, 4)), "=1 judged 0 refused 13");
+    SAYS(tallied(), "");
+    SAYS(run(520, ACTIONS(4, 63, 200, 4)), "s4 i3 a63 =1 judged 2 refused 13");
+    SAYS(run(511, ACTIONS(64)), "refused 15");
+    SAYS(run(0, NO_ACTIONS), "refused 15");
+}
+
+/* A refused opening writes nothing; the state's length is refused before 15, the policy
+ * before both. */
+static void traces_unopened(void)
+{
+    static const size_t STATES[] = {0, 8, 248, 255, 257, 300}, ROOMS[] = {0, 511, 512, 600};
+
+    for (unsigned i = 0; i < 6 * 4; i++) {
+        const guard_tally none = {0};
+        for (unsigned bad = 0; bad <= 1; bad++) {
+            two(&s.file, 4, 'V', bad == 1 ? 'W' : 'v');
+            lend_buffers(0x5A);
+            lend_tally(0);
+            SAYS(run_text(guard_trace(s.file.bytes, s.file.length, ACTIONS(4, 64), r.state,
+                                      STATES[i % 6], r.events, ROOMS[i / 6], &r.tally)),
+                 bad == 1 ? "refused 9 at 0" : "refused 11");
+            EXPECT(memcmp(&r.tally, &none, sizeof none) == 0);
+            for (unsigned b = 0; b < sizeof r.state; b++) {
+                EXPECT(r.state[b] == 0x5A && r.events[b] == 0xA5);
+            }
+        }
+    }
+    SAYS(run_text(guard_trace(NULL, 0, NULL, 0, NULL, 0, NULL, 0, &r.tally)), "refused 1");
+    one(&s.file, 'V');
+    SAYS(run_text(guard_trace(s.file.bytes, s.file.length, NULL, 0, NULL, 0, NULL, 0, &r.tally)),
+         "refused 11");
+    SAYS(run_text(guard_trace(s.file.bytes, s.file.length, NULL, 0, r.state, 256, NULL, 0,
+                              &r.tally)), "refused 15");
+}
+
+/* "counts stop at 4,294,967,295" */
+static void counts_stop(void)
+{
+    one(&s.file, 'L');
+    lend_tally(UINT32_MAX - 1);
+    SAYS(run_on(600, ACTIONS(2, 2, 2, 2)), "a2 a2 a2 =5 judged 4");
+    for (unsigned i = 0; i < 512; i++) { /* four times, four times, three times, once */
+        EXPECT(r.tally.steps[i] == (i <= 3 ? UINT32_MAX : UINT32_MAX - 1));
+    }
+    for (unsigned a = 0; a < 64; a++) {
+        EXPECT(r.tally.accepted[a] == (a == 2 ? UINT32_MAX : UINT32_MAX - 1));
+        EXPECT(r.tally.suppressed[a] == UINT32_MAX - 1 && r.tally.inserted[a] == UINT32_MAX - 1);
+    }
+    one(&s.file, 'V');
+    lend_tally(UINT32_MAX - 3);
+    SAYS(run_on(600, ACTIONS(4, 4, 4, 4)), "s4 i3 s4 i3 s4 i3 s4 i3 i3 =2 judged 4");
+    EXPECT(r.tally.steps[2] == UINT32_MAX && r.tally.steps[3] == UINT32_MAX - 2);
+    EXPECT(r.tally.suppressed[4] == UINT32_MAX && r.tally.inserted[3] == UINT32_MAX);
+    EXPECT(r.tally.suppressed[3] == UINT32_MAX - 3 && r.tally.inserted[4] == UINT32_MAX - 3);
+    SAYS(run_on(600, ACTIONS(4)), "s4 i3 i3 =2 judged 1"); /* and stay there */
+    EXPECT(r.tally.steps[0] == UINT32_MAX && r.tally.steps[2] == UINT32_MAX);
+    EXPECT(r.tally.steps[3] == UINT32_MAX - 1 && r.tally.inserted[3] == UINT32_MAX);
+}
+
+/* Inserts that are given on. V has the steps 0 to 4, W 5 to 7. */
+static void traces_two_leaves(void)
+{
+    /* W suppresses 3 when V inserts it, after the 4 and in closing: no events. Its own
+     * 3 is one; its next is left four times. */
+    two(&s.file, 5, 'V', 'W');
+    SAYS(run(600, ACTIONS(4, 3)), "s4 s3 =2 judged 2");
+    SAYS(tallied(), "0:2 1:1 2:1 3:1 4:1 5:4 6:3 7:1 s3:1 s4:1");
+    two(&s.file, 5, 'W', 'V');
+    SAYS(run(600, ACTIONS(4)), "s4 i3 i3 =2 judged 1");
+    SAYS(tallied(), "0:1 2:1 3:2 4:1 5:1 6:1 7:1 s4:1 i3:2");
+    two(&s.file, 4, 'V', 'v');
+    SAYS(run(600, ACTIONS(5)), "s5 i6 i3 i6 =2 judged 1");
+    SAYS(tallied(), "0:1 3:1 4:1 5:2 6:1 7:1 8:1 9:1 s5:1 i3:1 i6:2");
+}
+
+/* Left: 0 next 1/4, 1 ins 3, 2 ins 6, 3 sup, 4 end. Right, on 3 and 6: 5 next, 6 ok,
+ * 7 ins 9, 8 end, and 9 end for its done target. */
+static void traces_deciding_inserts(void)
+{
+    feeding();
+    s.file.bytes[6] = 7; /* the insert of 3 ends the root: 2 and 3 never run */
+    SAYS(run(600, ACTIONS(0)), "i3 i9 a0 =4 judged 1");
+    SAYS(tallied(), "0:1 1:1 5:1 6:1 7:1 8:1 a0:1 i3:1 i9:1");
+    SAYS(run(600, ACTIONS(0, 0, 3)), "i3 i9 a0 a0 a3 =4 judged 3");
+    SAYS(tallied(), "0:1 1:1 5:1 6:1 7:1 8:1 a0:2 a3:1 i3:1 i9:1");
+    s.file.bytes[6] = 5; /* the left goes on, and 6 goes straight out */
+    SAYS(run(600, ACTIONS(0)), "i3 i9 i6 s0 =2 judged 1");
+    SAYS(tallied(), "0:2 1:1 2:1 3:1 4:1 5:1 6:1 7:1 8:1 s0:1 i3:1 i6:1 i9:1");
+
+    halting(); /* left: 0 next 1/4, 1 ins 3, 2 ins 3, 3 ok, 4 end; right: 5 next, 6 halt, 7 end */
+    s.file.bytes[6] = 5;
+    SAYS(run(600, ACTIONS(0, 0)), "=5 judged 1");
+    SAYS(tallied(), "0:1 1:1 5:1 6:1");
+    s.file.bytes[6] = 7;
+    SAYS(run(600, ACTIONS(0)), "i3 i3 a0 =3 judged 1");
+    SAYS(tallied(), "0:2 1:1 2:1 3:1 4:1 5:1 6:1 a0:1 i3:2");
+}
+
+/* 31 nodes and 512 steps: sixteen leaves on 0 with next, 29 spends, ok and end. */
+static void traces_every_step(void)
+{
+    struct file *f = &s.file;
+
+    start(f, 31);
+    for (unsigned k = 0; k < 31; k++) {
+        if (k % 2 == 0 && k < 30) {
+            node(f, k, 4, k + 1, k + 2, 0, 0, 0);
+            continue;
+        }
+        node(f, k, 1, 0, 0, 32, 0, BIT(0));
+        step(f, NEXT, 0, 1, 31, 0);
+        for (unsigned i = 1; i < 30; i++) {
+            step(f, SPEND, 0, i + 1, i + 1, 0);
+        }
+        step(f, OK, 0, 0, 0, 0);
+        step(f, END, 0, 0, 0, 0);
+    }
+    finish(f);
+    SAYS(run(600, ACTIONS(0, 0, 0)), "a0 a0 a0 =2 judged 3");
+    for (unsigned i = 0; i < 512; i++) {
+        EXPECT(r.tally.steps[i] == (i % 32 == 0 ? 4 : i % 32 == 31 ? 1 : 3));
+    }
+    EXPECT(r.tally.accepted[0] == 3);
+}
+
+/* More actions and events than two bytes count. */
+static void traces_at_length(void)
+{
+    enum { MANY = 70000 };
+    static uint8_t trace[MANY], events[2 * MANY + GUARD_EVENT_BYTES];
+    guard_traced t;
+
+    one(&s.file, 'T');
+    memset(trace, 5, sizeof trace);
+    for (size_t less = 0; less <= 3; less++) { /* 1 and 2 are short of closing's need */
+        lend_tally(0);
+        t = guard_trace(s.file.bytes, s.file.length, trace, MANY, r.state, GUARD_STATE_BYTES,
+                        events, sizeof events - less, &r.tally);
+        EXPECT(t.refusal == (less == 0 ? 0 : 15) && t.status == 2 && t.events == t.judged);
+        EXPECT(t.judged == (less < 3 ? MANY : MANY - 1) && r.tally.accepted[5] == t.judged);
+    }
+}
+
+/* "The events are those that the single calls give." A run by single calls, each with
+ * buffers of its own. */
+struct single {
+    uint8_t state[GUARD_STATE_BYTES];
+    uint8_t events[sizeof r.events];
+    guard_tally tally; /* of actions alone */
+    guard_traced so_far;
+};
+
+/* What one more call of the file in s does; answers whether the run goes on. */
+static bool go_on(struct single *e, size_t room, guard_answer answer)
+{
+    uint32_t *counts[] = {NULL, e->tally.accepted, e->tally.suppressed, e->tally.inserted};
+    const size_t written = 2 * (size_t)e->so_far.events;
+
+    if (answer.refusal == 0 && room - written < GUARD_EVENT_BYTES) {
+        answer.refusal = 15;
+    }
+    e->so_far.refusal = answer.refusal;
+    e->so_far.place = answer.place;
+    if (answer.refusal != 0) {
+        return false;
+    }
+    memcpy(e->state, s.state, sizeof s.state);
+    memcpy(e->events + written, s.events, 2u * answer.events);
+    for (unsigned i = 0; i < answer.events; i++) {
+        counts[s.events[2 * i]][s.events[2 * i + 1]]++;
+    }
+    e->so_far.opened = true;
+    e->so_far.events += answer.events;
+    e->so_far.status = answer.status;
+    return answer.status != GUARD_HALTED;
+}
+
+static void run_singly(struct single *e, size_t room, const uint8_t *trace, size_t length)
+{
+    const struct file *f = &s.file;
+
+    memset(e, 0, sizeof *e);
+    memset(e->state, (int)(room % 256), sizeof e->state);
+    memset(e->events, 0xA5, sizeof e->events);
+    if (!go_on(e, room, guard_open(f->bytes, f->length, s.state, sizeof s.state, s.events,
+                                   sizeof s.events))) {
+        return;
+    }
+    for (size_t i = 0; i < length; i++) {
+        const bool goes_on =
+            go_on(e, room, guard_offer(f->bytes, f->length, s.state, sizeof s.state, s.events,
+                                       sizeof s.events, trace[i]));
+        e->so_far.judged += e->so_far.refusal == 0;
+        if (!goes_on) {
+            return;
+        }
+    }
+    (void)go_on(e, room, guard_close(f->bytes, f->length, s.state, sizeof s.state, s.events,
+                                     sizeof s.events));
+}
+
+/* Holds a run against the single calls and answers how many events it wrote. */
+static uint32_t runs_as_singly(size_t room, const uint8_t *trace, size_t length)
+{
+    static struct single e;
+
+    run_singly(&e, room, trace, length);
+    lend_buffers((uint8_t)room);
+    lend_tally(0);
+    const guard_traced t =
+        guard_trace(s.file.bytes, s.file.length, trace, length, r.state, GUARD_STATE_BYTES,
+                    r.events, room, &r.tally);
+    EXPECT(t.refusal == e.so_far.refusal && t.opened == e.so_far.opened);
+    EXPECT(t.place.given == e.so_far.place.given && t.place.number == e.so_far.place.number);
+    EXPECT(t.judged == e.so_far.judged && t.events == e.so_far.events);
+    EXPECT(t.status == e.so_far.status);
+    EXPECT(memcmp(r.state, e.state, sizeof e.state) == 0);
+    EXPECT(memcmp(r.events, e.events, sizeof e.events) == 0);
+    EXPECT(memcmp(r.tally.accepted, e.tally.accepted, sizeof e.tally.accepted) == 0);
+    EXPECT(memcmp(r.tally.suppressed, e.tally.suppressed, sizeof e.tally.suppressed) == 0);
+    EXPECT(memcmp(r.tally.inserted, e.tally.inserted, sizeof e.tally.inserted) == 0);
+    return t.events;
+}
+
+/* The same, with every room from too little to open to more than enough. */
+static void runs_in_any_room(const uint8_t *trace, size_t length)
+{
+    const size_t enough = 2 * (size_t)runs_as_singly(sizeof r.events, trace, length) + 512;
+
+    for (size_t room = 509; room <= enough + 1; room++) {
+        (void)runs_as_singly(room, trace, length);
+    }
+}
+
+/* The same actions in every order that a step of 1 to 6 gives. */
+static void traces_as_singly(void)
+{
+    static const uint8_t ACTIONS_OF_01[] = {4, 2, 3, 5, 2, 6, 4, 64, 2, 4, 5, 3, 2};
+    uint8_t trace[13];
+
+    for (unsigned by = 1; by <= 6; by++) {
+        for (unsigned i = 0; i < 13; i++) {
+            trace[i] = ACTIONS_OF_01[i * by % 13];
+        }
+        runs_in_any_room(trace, 13);
+        runs_in_any_room(trace, by);
+    }
+}
+
+static void traces_small_policies(void)
+{
+    static const char WHICH[] = "LVvWTU";
+
+    for (unsigned i = 0; i < 6; i++) {
+        one(&s.file, WHICH[i]);
+        traces_as_singly();
+        for (unsigned j = 0; j < 6; j++) {
+            for (unsigned kind = 4; kind <= 7; kind++) {
+                two(&s.file, kind, WHICH[i], WHICH[j]); /* some are refused 9 */
+                traces_as_singly();
+            }
+        }
+    }
+    spread(15, "0"); /* 241 events for a 0: 1 for each of 15 inserts, 15 more each, and a0 */
+    runs_in_any_room(ACTIONS(0, 5, 0, 1, 0));
+}
+
+/* The samples' policies: every action that they regulate, over and over, by steps that
+ * have no factor in common with 64. */
+static void traces_named(void)
+{
+    const uint64_t set = check(&s.file).regulated.bits;
+    uint8_t trace[40];
+
+    for (unsigned by = 1; by <= 9; by += 2) {
+        unsigned length = 0;
+        for (unsigned i = 0; length < sizeof trace && i < 64 * 64; i++) {
+            const unsigned action = (i * by + i / 64) % 64;
+            if ((set >> action & 1) != 0 || i % 61 == 0) {
+                trace[length++] = (uint8_t)action;
+            }
+        }
+        runs_in_any_room(trace, length);
+    }
+}
+
 /* A file named on the command line, as the samples' policies are. */
-static void writes_named(const char *name)
+static void try_named(const char *name)
 {
     struct file *f = &s.file;
     FILE *from = fopen(name, "rb");
@@ -1121,6 +1595,7 @@ static void writes_named(const char *name)
     f->length = fread(f->bytes, 1, sizeof f->bytes, from);
     fclose(from);
     writes_again(f);
+    traces_named();
 }
 
 int main(int argc, char **argv)
@@ -1153,8 +1628,18 @@ int main(int argc, char **argv)
     counts_sixteen();
     refuses_counts_in_states();
     refuses_lengths();
+    traces_one_leaf();
+    traces_decided_roots();
+    traces_refused();
+    traces_unopened();
+    counts_stop();
+    traces_two_leaves();
+    traces_deciding_inserts();
+    traces_every_step();
+    traces_at_length();
+    traces_small_policies();
     for (int i = 1; i < argc; i++) {
-        writes_named(argv[i]);
+        try_named(argv[i]);
     }
     printf("%u checks hold\n", checks);
     return 0;

@@ -5,15 +5,18 @@ Prints how many calls there are, how many of them are answered (in THEIRS, with 
 of the first that differ, counted from 0. Stops where an output has not just the bytes of all the calls' answers."""
 import sys
 
-CHECK, WRITE, FIELDS = 0, 4, 3            # the entries that check and write; fields of a call
+CHECK, WRITE, TRACE, FIELDS = 0, 4, 5, 3  # the entries that check, write and run a trace; fields of a call
 CHECK_ANSWER, WRITTEN, REPLY = 19, 5, 6   # bytes of a check's answer, of a write's before its output, of another's before its two buffers
+REPORT, TALLY = 12, 4 * 704               # of a trace run's before its two buffers, and of its tally after them
 
 
 def answer_size(entry, sizes):
     """The size of the answer to a call of an entry, its fields having these sizes."""
     if entry == CHECK:
         return CHECK_ANSWER
-    return WRITTEN + sizes[2] if entry == WRITE else REPLY + sizes[1] + sizes[2]
+    if entry == WRITE:
+        return WRITTEN + sizes[2]
+    return sizes[1] + sizes[2] + (REPORT + TALLY if entry == TRACE else REPLY)
 
 
 def answer_sizes(calls):

@@ -1,9 +1,11 @@
 #!/usr/bin/env python3
 """tests/fretmere.py: tries the command tools/fretmere, every verb on good and bad input: what it prints, on which stream, and its exit status.
 
-The programs are those of target/bin. What they do not do on this machine, to fail to start, is played by a small script in one's place.
+The programs are those of target/bin. What they do not do on this machine, to fail to start, is played by a small script in one's place. So is what
+guardtrace may say; guardtrace itself is tried on the samples.
 Run it as `python3 tests/fretmere.py`; the last line counts.
 """
+import itertools
 import os
 import pathlib
 import re
@@ -16,8 +18,9 @@ import stored
 
 HERE = pathlib.Path(__file__).resolve().parent.parent
 sys.path.insert(0, str(HERE / "tools"))
-from desk import commands, programs  # noqa: E402: the path comes first
+from desk import commands, drawing, looks, programs, tally, tracing  # noqa: E402: the path comes first
 from desk.names import Source  # noqa: E402
+from desk.policy import Policy  # noqa: E402
 from desk.programs import Fault  # noqa: E402
 
 ROOM = pathlib.Path(tempfile.mkdtemp())
@@ -47,6 +50,22 @@ ins 6 0
 end
 trivial
 """
+
+# what guardtrace says of this policy: on `reheat 7`; and, of which only the first line counts here, on other traces
+TALLY = """{head}
+seq-and 1 2  # node 0
+leaf {{5}} 3  # node 1
+ran 2  next 1 5  # step 0
+ran 1  spend 1 2 3  # step 1
+ran 1  ok 0  # step 2
+never  sup 4  # step 3
+never  ins 6 0  # step 4
+ran 1  end  # step 5
+trivial  # node 2
+action 5: accepted 1 suppressed 0 inserted 0
+action 7: accepted 1 suppressed 0 inserted 0
+"""
+ENDED = TALLY.format(head="judged 2 events 2 status ended")
 
 
 def expect(holds, what):
@@ -83,18 +102,34 @@ def says(expected, *words, status=0, **given):
 
 def played(**said):
     """A folder of programs, each a script that says what it is told: (standard output, standard error, exit status)."""
-    folder = pathlib.Path(tempfile.mkdtemp(dir=ROOM))
     scripts = {name: f"cat >/dev/null\nprintf '{out}'\nprintf '{err}' >&2\nexit {status}" for name, (out, err, status) in said.items()}
+    return scripted(scripts)
+
+
+def scripted(scripts):
+    folder = pathlib.Path(tempfile.mkdtemp(dir=ROOM))
     for name, script in {**scripts, "under-kit": 'exec "$@"'}.items():
         (folder / name).write_text(f"#!/bin/sh\n{script}\n")
         (folder / name).chmod(0o755)
     return str(folder)
 
 
+def traced(said, marked=None):
+    """The programs as they are, but for guardtrace: it keeps what it reads in a file `given` beside it, and says what it is told; something else if
+    the last byte that it reads is 255."""
+    own = {name: f"exec '{HERE}/tests/under-kit' '{HERE}/target/bin/{name}'" for name in ("guardwrite", "guardtext")}
+    told = """cd "$(dirname "$0")" && cat >given
+case $(tail -c 1 given | od -An -tu1) in *255) cat marked;; *) cat said;; esac"""
+    folder = scripted({**own, "guardtrace": told})
+    (pathlib.Path(folder) / "said").write_text(said)
+    (pathlib.Path(folder) / "marked").write_text(said if marked is None else marked)
+    return folder
+
+
 def try_help():
     status, out, err = fretmere("--help")
     expect(status == 0 and b"verbs" in out and b"Exit status" in out and not err, "--help")
-    for verb in ("write", "text", "check", "run", "state", "draw"):
+    for verb in ("write", "text", "check", "run", "trace", "state", "draw"):
         status, out, err = fretmere(verb, "--help")
         expect(status == 0 and f"fretmere {verb}".encode() in out and not err, f"{verb} --help")
     fails(2, "usage", )
@@ -270,8 +305,158 @@ def try_run():
     fails(1, "no source names actions", "run", policy, "-", given=b"reheat\n")
     fails(1, "above 255", "run", policy, "-", given=b"256\n")
     fails(2, "cannot both", "run", "-", "-")
+    fails(1, "no text of commands, for it has a byte 12.*--bytes", "run", policy, "-", given=b"\n\x0c\n")
     for cut in (stored_file(PLAIN)[:-1], stored_file(PLAIN) + b"\5"):  # neither may a command complete the file, nor its last byte be one
         fails(1, "is refused 1: ", "run", kept("cut", cut), "-", given=b"0 5\n")
+
+
+NAMED_REPORT = """2 of 2 commands judged, 2 events
+closed: the policy has ended
+
+never reached: 2 of 6 steps
+  leaf 1 quota, step 3 (no): sup away
+  leaf 1 quota, step 4 (away): ins scrap wait
+
+how often each step ran:
+leaf 1 quota: 4 of 6 steps reached
+      2  0 (wait): next asked closing
+      1  1 (asked): spend 1 yes no
+      1  2 (yes): ok wait
+  never  3 (no): sup away
+  never  4 (away): ins scrap wait
+      1  5 (closing): end
+
+actions     accepted  suppressed  inserted
+reheat (5)         1           0         0
+7                  1           0         0
+"""
+PLAIN_REPORT = """2 of 2 commands judged, 2 events
+closed: the policy has ended
+
+never reached: 2 of 6 steps
+  leaf 1, step 3: sup 4
+  leaf 1, step 4: ins 6 0
+
+how often each step ran:
+leaf 1: 4 of 6 steps reached
+      2  0: next 1 5
+      1  1: spend 1 2 3
+      1  2: ok 0
+  never  3: sup 4
+  never  4: ins 6 0
+      1  5: end
+
+actions  accepted  suppressed  inserted
+5               1           0         0
+7               1           0         0
+"""
+
+
+def try_trace():
+    """A run that comes to its end: what is said of it, with names and without, what guardtrace is handed, and what is kept."""
+    policy, source = kept("named.policy", stored_file(PLAIN)), kept("named.text", NAMED)
+    folder, to = traced(ENDED), ROOM / "kept.tally"
+    given, file = pathlib.Path(folder) / "given", pathlib.Path(policy).read_bytes()
+    says(NAMED_REPORT, "trace", source, "-", "-o", to, given=b"reheat # one\n\n7\n", FRETMERE_PROGRAMS=folder)
+    expect(to.read_text() == ENDED, "the tally is kept as guardtrace prints it")
+    expect(given.read_bytes() == file + b"\5\7", "guardtrace is handed the file, then the commands")
+    says(NAMED_REPORT, "trace", policy, kept("raw", b"\5\7"), "--bytes", "--source", source, FRETMERE_PROGRAMS=folder)
+    expect(given.read_bytes() == file + b"\5\7", "a raw trace is handed on as it is")
+    says(PLAIN_REPORT, "trace", policy, "-", given=b"5 7", FRETMERE_PROGRAMS=folder)
+    week = bytes([5, 7] * 302400)
+    long = ENDED.replace("judged 2 events 2", "judged 604800 events 604800").replace("ran 2 ", "ran 302401 ").replace("ran 1  spend", "ran 4294967295  spend")
+    status, out, _ = fretmere("trace", policy, "-", "--bytes", given=week, FRETMERE_PROGRAMS=traced(long))
+    expect(status == 0 and out.startswith(b"604,800 of 604,800 commands judged, 604,800 events\nclosed") and b"\n                302,401  0: next" in out
+           and b"\n  4,294,967,295 or more  1: spend" in out, f"large counts: {out.decode()}")
+    for end, words in (("left", "has ended by its left side"), ("right", "has ended by its right side")):
+        says(PLAIN_REPORT.replace("has ended", words), "trace", policy, "-", given=b"5 7", FRETMERE_PROGRAMS=traced(ENDED.replace("ended", end)))
+    everywhere = ENDED.replace("never", "ran 9")
+    status, out, _ = fretmere("trace", policy, "-", given=b"5 7", FRETMERE_PROGRAMS=traced(everywhere))
+    expect(status == 0 and b"\nnever reached: none of 6 steps\n\nhow" in out and b"leaf 1: 6 of 6 steps reached" in out, "every step is reached")
+    says("0 of 0 commands judged, 0 events\nclosed: the policy has ended\n\nactions: none was accepted, suppressed or inserted\n", "trace",
+         kept("all.text", "trivial\n"), kept("no-commands", ""), FRETMERE_PROGRAMS=traced("judged 0 events 0 status ended\ntrivial  # node 0\n"))
+    waits = ENDED.replace("ran 2  next", "never  next")
+    status, out, _ = fretmere("trace", policy, "-", given=b"5 7", FRETMERE_PROGRAMS=traced(waits))
+    expect(b"  leaf 1, step 0: next 1 5  # a next counts when it is left\n" in out, "a next that was never left")
+
+
+def stops(status, words, given, said, marked=None):
+    """The lines up to the first empty one of a run that stops."""
+    got, out, err = fretmere("trace", kept("named.text", NAMED), "-", given=given, FRETMERE_PROGRAMS=traced(said, marked))
+    shown, _, rest = out.decode().partition("\n\n")
+    expect((got, shown, err) == (status, words, "") and rest.startswith("never reached: 2 of 6 steps\n"),
+           f"{said.splitlines()[0]}: {got}, {out.decode()!r}, {err!r}")
+
+
+def try_trace_stops():
+    """A run that does not come to its end: a refusal tells its command, and a halt what halted it."""
+    def tally_with(head):
+        return TALLY.format(head=head)
+    halted, refused_13 = tally_with("judged 2 events 2 status halted"), tally_with("judged 2 events 2 status running refused 13")
+    stops(1, "2 of 4 commands judged, 2 events\nstopped at command 3, which is 200: refused 13, the command is above 63\n"
+             "commands 3 to 4: not judged; the policy is not closed", b"reheat 7 200 reheat", refused_13)
+    room = "refused 15, no room is left for the events of another call"
+    refused_15 = tally_with("judged 2 events 2 status running refused 15")
+    stops(1, f"2 of 3 commands judged, 2 events\nstopped at command 3, which is reheat (5): {room}\ncommand 3: not judged; the policy is not closed",
+          b"reheat 7 reheat", refused_15)
+    stops(1, f"2 of 2 commands judged, 2 events\nstopped at closing: {room}", b"reheat 7", refused_15)
+    stops(0, "2 of 4 commands judged, 2 events\nHALTED by command 2, which is reheat (5)\ncommands 3 to 4: not judged, for the policy has halted",
+          b"7 reheat 7 7", halted)
+    stops(0, "2 of 2 commands judged, 2 events\nHALTED by command 2, which is reheat (5)", b"7 reheat", halted, halted)
+    stops(0, "2 of 2 commands judged, 2 events\nHALTED at closing", b"7 reheat", halted, refused_13)
+    stops(0, "2 of 2 commands judged, 2 events\nHALTED by command 2, which is reheat (5), or at closing", b"7 reheat", halted, "a trace of at most 2 actions\n")
+    opened = tally_with("judged 0 events 0 status halted")
+    stops(0, "0 of 1 command judged, 0 events\nHALTED at opening\ncommand 1: not judged, for the policy has halted", b"7", opened)
+    stops(0, "0 of 0 commands judged, 0 events\nHALTED at opening", b"", opened, opened)
+    stops(0, "0 of 0 commands judged, 0 events\nHALTED at closing", b"", opened, tally_with("judged 0 events 0 status running refused 13"))
+
+
+def try_trace_refused():
+    """No run at all: the policy, the commands or the trace's length is refused, or guardtrace says no tally. No tally is kept then."""
+    policy, source, to = kept("named.policy", stored_file(PLAIN)), kept("named.text", NAMED), ROOM / "no.tally"
+
+    def refused(status, pattern, *words, said=ENDED, given=b"5 7"):
+        fails(status, pattern, "trace", *words, "-o", to, given=given, FRETMERE_PROGRAMS=traced(said))
+    refused(1, r"refused 7: a step .*\n    step 2 of leaf 2\n$", kept("twice", stored.broken(("sequential and", stored.V, stored.W), ("step", 6, "first", 2))), "-")
+    for cut in (stored_file(PLAIN)[:-1], stored_file(PLAIN) + b"\5"):  # neither may a command complete the file, nor its last byte be one
+        folder = traced(ENDED)
+        fails(1, "is refused 1: ", "trace", kept("cut", cut), "-", "-o", to, given=b"5 7", FRETMERE_PROGRAMS=folder)
+        expect(not (pathlib.Path(folder) / "given").exists(), "commands follow a file only if it passes")
+    refused(1, "named.policy is refused 7: a step is never reached", policy, "-", said="refused 7 at 3\n")
+    refused(1, "named.policy is refused 15: no room", policy, "-", said="refused 15\n")
+    refused(1, "standard input has 3 commands, and guardtrace takes a trace of at most 1048576 actions", policy, "-", said="a trace of at most 1048576 actions\n",
+            given=b"5 5 5")
+    refused(1, "line 1: no action is named `reheta`", source, "-", given=b"reheta")
+    refused(1, "no source names actions", policy, "-", given=b"reheat")
+    refused(1, "no text of commands, for it has a byte 5.*--bytes", policy, "-", given=b"\5\5")
+    refused(1, "No such file", policy, ROOM / "nowhere")
+    refused(2, "cannot both", "-", "-")
+    refused(2, "what guardtrace said is no tally: it begins `judged 2`", policy, "-", said="judged 2\n")
+    refused(2, "what guardtrace said is a tally of another policy than .*named.policy", policy, "-", said=ENDED.replace("sup 4", "sup 5"))
+    expect(not to.exists(), "where there is no run, no tally is kept")
+    fails(1, "nowhere/x: No such file", "trace", policy, "-", "-o", ROOM / "nowhere/x", given=b"5 7", FRETMERE_PROGRAMS=traced(ENDED))
+    fails(2, "guardtrace is not in ", "trace", HERE / "samples/small-trivial.policy", "-", FRETMERE_PROGRAMS=played(guardtext=("trivial  # node 0\n", "", 0)))
+
+
+def try_trace_samples():
+    """guardtrace itself, where it is built: its counts of events are those of guardrun's stored runs, and docs/FORMAT.md shows what it prints."""
+    if programs.found("guardtrace") is None:
+        return
+    for sample in stored.SAMPLES:
+        path = HERE / f"samples/{sample['name']}.policy"
+        given, lines = path.with_suffix(".input").read_bytes(), path.with_suffix(".output").read_text().splitlines()
+        run, offered = ran(given)
+        own = tracing.Trace(Policy(str(path)), kept("offered", bytes(offered)), True)
+        if any(command > 63 for command in offered):
+            expect((own.tally.judged, own.tally.refused) == (len([*itertools.takewhile(lambda command: command < 64, offered)]), 13), f"{sample['name']}: stops")
+            continue
+        counts = {action: tuple(lines.count(f"{kind} {action}") for kind in ("acc", "sup", "ins")) for action in range(64)}
+        expect(own.tally.actions == {action: three for action, three in counts.items() if any(three)}, f"{sample['name']}: {own.tally.actions}")
+        expect((own.tally.judged, own.tally.events, f"close {own.tally.status}", own.tally.refused) == (len(run.given), len(lines) - 2, lines[-1], None),
+               f"{sample['name']}: {own.said.decode()}")
+        if sample["name"] == "small-parallel-or":
+            shown = "".join(f"    {line}\n" for line in own.said.decode().splitlines())
+            expect(shown in (HERE / "docs/FORMAT.md").read_text(), "docs/FORMAT.md shows another tally")
 
 
 def try_state():
@@ -304,6 +489,93 @@ def try_draw():
     fails(1, "is refused 1", "draw", kept("short", b"\0\5\1"))
 
 
+def try_draw_tally():
+    policy, source = kept("named.policy", stored_file(PLAIN)), kept("named.text", NAMED)
+    counted, to, folder = kept("ended.tally", ENDED), ROOM / "counted.svg", traced(ENDED)
+    fails(2, "draw needs the program `dot` of Graphviz", "draw", source, "--tally", counted, PATH=str(ROOM))
+    fails(2, "not allowed with", "draw", source, "--tally", counted, "--trace", "-")
+    fails(2, "cannot both", "draw", "-", "--tally", "-")
+    fails(2, "cannot both", "draw", "-", "--trace", "-")
+    fails(2, "--bytes says how the commands of --trace are written", "draw", source, "--tally", counted, "--bytes")
+    if shutil.which("dot") is None:
+        return
+    says("", "draw", source, "--tally", counted, "-o", to)
+    shown = to.read_text()
+    expect(shown.count(">never<") == 3 and shown.count("stroke-dasharray") >= 3 and looks.NEVER in shown, "two steps and the scale say never")
+    expect(all(f">{words}<" in shown for words in ("ran 1", "ran 2", "2 of 6 steps never reached", "4 of 6 steps reached", "ins scrap", "3 no")), "counts and names")
+    expect(">2 commands judged, 2 events; the policy has ended<" in shown, "how the run ended")
+    drawn = fretmere("draw", policy, "--source", source, "--tally", "-", given=ENDED.encode())
+    expect(drawn == (0, shown.encode(), ""), "a tally from standard input")
+    for words in (("--trace", "-"), ("--bytes", "--trace", kept("raw", b"\5\7"))):
+        drawn = fretmere("draw", source, *words, given=b"reheat 7", FRETMERE_PROGRAMS=folder)
+        expect(drawn == (0, shown.encode(), ""), f"draw {words[0]}: what it draws is the tally's picture")
+    try_draw_wrong_tally(source, counted)
+    try_draw_stopped(source, shown)
+    bare = fretmere("draw", kept("all.text", "trivial\n"), "--tally", "-", given=b"judged 0 events 0 status ended\ntrivial  # node 0\n")
+    expect(bare[0] == 0 and b"the policy has no steps" in bare[1] and b"never" not in bare[1], "a policy with no steps")
+
+
+def try_pictures():
+    """The pictures that docs/ keeps say what the command draws today; lines may run elsewhere, for they are Graphviz's."""
+    for picture in sorted((HERE / "docs/pictures").glob("*.svg")) if shutil.which("dot") else ():
+        sample = HERE / "samples" / picture.stem
+        status, drawn, _ = fretmere("draw", sample.with_suffix(".text"), "--tally", sample.with_suffix(".tally"))
+        said = [sorted(re.findall(r">([^<]+)</text>", text)) for text in (drawn.decode(), picture.read_text())]
+        expect(status == 0 and said[0] == said[1], f"docs/pictures/{picture.name} is another picture")
+
+
+def try_draw_wrong_tally(source, counted):
+    gone = ROOM / "not-drawn.svg"
+    fails(1, r"ended.tally is a tally of another policy than .*widened.policy", "draw", HERE / "samples/widened.policy", "--tally", counted, "-o", gone)
+    for other in (ENDED.replace("ins 6 0", "ins 7 0"), ENDED.partition("ran 1  end")[0], ENDED + "more\n", ENDED.replace("ran 1  ok", "ran x  ok")):
+        fails(1, "standard input is a tally of another policy", "draw", source, "--tally", "-", "-o", gone, given=other.encode())
+    for other in (b"", b"refused 7 at 3\n", b"judged 2 events 2 status gone\n", b"\xff\0"):
+        fails(1, "standard input is no tally: it begins ", "draw", source, "--tally", "-", "-o", gone, given=other)
+    fails(1, "No such file", "draw", source, "--tally", ROOM / "nowhere", "-o", gone)
+    fails(1, "takes a trace of at most 1048576", "draw", source, "--trace", "-", "-o", gone, FRETMERE_PROGRAMS=traced("a trace of at most 1048576 actions\n"))
+    fails(1, "is refused 1", "draw", kept("short", b"\0\5\1"), "--tally", counted, "-o", gone)
+    expect(not gone.exists(), "no picture of a wrong tally")
+
+
+def try_draw_stopped(source, shown):
+    """A refusal that stops the run is told, and the picture shows the run up to there."""
+    stopped, to = TALLY.format(head="judged 2 events 2 status running refused 13"), ROOM / "stopped.svg"
+    fails(1, r"the run stopped at command 3, which is 99: refused 13, the command is above 63\. The picture shows", "draw", source, "--trace", "-", "-o", to,
+          given=b"reheat 7 99", FRETMERE_PROGRAMS=traced(stopped))
+    ended, words = "the policy has ended", "then refused 13, the command is above 63"
+    expect(words in to.read_text() and to.read_text().count(">never<") == shown.count(">never<") and ended not in to.read_text(), "a picture of a stopped run")
+    drawn = fretmere("draw", source, "--tally", kept("stopped.tally", stopped))
+    expect(drawn == (0, to.read_bytes(), ""), "a stopped run's tally can be drawn")
+
+
+def try_looks():
+    """A leaf that was not reached at all beside one that was, in dot's language: nodes, steps and arrows."""
+    policy, counts = Policy(str(HERE / "samples/chinese-wall.policy")), iter([0, 0, 0, 0, 0, 4, 4, 4, 0, 0])
+    lines = [(f"ran {count}" if (count := next(counts)) else "never") + line if line.startswith("  ") else line for line in policy.text()]
+    own = tally.Tally("\n".join(["judged 4 events 4 status running refused 13", *lines]).encode(), policy)
+    expect((own.reached(0), own.reached(1), own.reached(2)) == ((3, 10), (0, 5), (3, 5)), "steps reached, by node")
+    dot = "\n".join(drawing.dot(policy.nodes(), policy.names, looks.Tallied(own)))
+    for node, share in (("n0", "3 of 10"), ("n1", "0 of 5"), ("n2", "3 of 5")):
+        row = re.search(rf"^  {node} \[.*$", dot, re.MULTILINE)[0]
+        expect(f"\\n{share} steps reached" in row and (looks.NEVER in row) == (node == "n1"), row)
+    dashed = re.findall(r"^    (s\d_\d) -> .*style=dashed", dot, re.MULTILINE)
+    expect({*dashed} == {"s1_0", "s1_1", "s1_2"}, f"the arrows of steps that never ran: {dashed}")
+    never = re.findall(rf'^    (s\d_\d) \[label="[^"]*never" .*dashed.*color="{looks.NEVER}"', dot, re.MULTILINE)
+    expect(never == [*(f"s1_{offset}" for offset in range(5)), "s2_3", "s2_4"], f"the steps that never ran: {never}")
+
+
+def try_shades():
+    """One hue from light to dark by the logarithm of the count; the same colour for the same count."""
+    policy = Policy(kept("named.policy", stored_file(PLAIN)))
+    for most in (1, 2, 604800, tally.MOST):
+        look = looks.Tallied(tally.Tally(ENDED.replace("ran 2", f"ran {most}").encode(), policy))
+        fills = [look.fill(count)[0] for count in sorted({1, 2, 10, 1000, most}) if count <= most]
+        expect(fills == sorted(fills, reverse=True) and fills[0] == looks.mixed(looks.RAN, 0), f"shades up to {most}: {fills}")
+        expect(most == 1 or fills[-1] == looks.mixed(looks.RAN, 1), f"the darkest of {most}: {fills}")
+    middle = look.part(2 ** 16)
+    expect(0.49 < middle < 0.51, f"2^16 is half way to 2^32: {middle}")
+
+
 def try_version():
     header = (HERE / "include/fretmere.h").read_text()
     parts = [re.search(rf"FRETMERE_VERSION_{part} (\d+)", header)[1] for part in ("MAJOR", "MINOR", "PATCH")]
@@ -311,11 +583,13 @@ def try_version():
 
 
 if __name__ == "__main__":
-    for attempt in (try_help, try_write, try_names, try_text, try_check, try_run_parts, try_run, try_state, try_draw, try_version):
+    for attempt in (try_help, try_write, try_names, try_text, try_check, try_run_parts, try_run, try_trace, try_trace_stops,
+                    try_trace_refused, try_trace_samples, try_state, try_draw, try_draw_tally, try_pictures, try_looks, try_shades, try_version):
         attempt()
     shutil.rmtree(ROOM)
     for fault in FAULTS:
         print(f"differs: {fault}")
     pictures = "" if shutil.which("dot") else "; no picture, for there is no dot"
-    print(f"fretmere: {TRIED} tries, {len(FAULTS)} differ{pictures}")
+    traces = "" if programs.found("guardtrace") else "; guardtrace itself not tried, for it is not built"
+    print(f"fretmere: {TRIED} tries, {len(FAULTS)} differ{pictures}{traces}")
     sys.exit(1 if FAULTS else 0)

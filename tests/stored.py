@@ -1045,20 +1045,23 @@ def sample_printed(s):
 def samples_readme():
     out = ["""# Sample policies
 
-Each sample has four files:
+Each sample has five files:
 
 - `NAME.text` is the policy as text, with remarks; `docs/TEXT.md` says how to read it.
 - `NAME.policy` is the file that `guardwrite` makes of it. All of them pass the check.
 - `NAME.input` is what `guardrun` reads: the policy file, then the actions, one byte each.
 - `NAME.output` is what `guardrun` prints. `make sample SAMPLE=NAME` prints the same.
+- `NAME.tally` is what `guardtrace` prints of the same input: how often each step ran. It stops at the first refused action, where `guardrun` goes on.
 
-To try other actions on a sample: `echo "3 4 5" | tools/fretmere run samples/NAME.text -`. To see it as a picture: `tools/fretmere draw samples/NAME.text -o NAME.svg`.
+To try other actions on a sample: `echo "3 4 5" | tools/fretmere run samples/NAME.text -`. To see it as a picture: `tools/fretmere draw samples/NAME.text -o NAME.svg`;
+with `--tally samples/NAME.tally` it is coloured by how often each step ran.
 
 The first nine samples follow the examples of document 002, the report on the policy calculus, as far as actions without arguments allow.
 Its genericRM is a function over policies and is left out. "01" is the user's paper on scope and rules, which has the small policies L, V,
 V' and W. "Held back" means suppressed. Operators are named as in the text: `and`, `or`, `seq-and`, `seq-or`.
 
-All files here are made by `tests/stored.py`. To compare a guardrun with them, run `python3 tests/stored.py check PROGRAM`."""]
+All files here are made by `tests/stored.py` and `tests/tallies.py`. To compare a guardrun with them, run `python3 tests/stored.py check PROGRAM`; a
+guardtrace, `python3 tests/tallies.py check PROGRAM`."""]
     out.append("\n| Sample | Nodes | Steps | Bytes | Opens | Closes |\n|---|---|---|---|---|---|")
     for s in SAMPLES:
         nodes, steps, _ = lay_out(s["policy"])
@@ -1083,7 +1086,8 @@ All files here are made by `tests/stored.py`. To compare a guardrun with them, r
 def runs_readme():
     out = ["""# Stored runs
 
-NN-name.input is what guardrun reads, NN-name.output what it prints. Made by tests/stored.py, as the samples are. A `refused-N` run with N from
+NN-name.input is what guardrun reads, NN-name.output what it prints; NN-name.tally is what guardtrace prints of the same input. Made by
+tests/stored.py and tests/tallies.py, as the samples are. A `refused-N` run with N from
 4 to 10 also prints the place: the node or step to blame.
 
 | Run | What it shows | Input bytes | Lines |
@@ -1139,7 +1143,7 @@ def check(program):
         given = (HERE / f"{name}.input").read_bytes()
         if printed_by(program, given) != (HERE / f"{name}.output").read_bytes():
             faults.append(f"{name}.output")
-    known = set(files) | {f"{name}.output" for name, _, _ in runs}
+    known = set(files) | {f"{name}.{kind}" for name, _, _ in runs for kind in ("output", "tally")}  # tests/tallies.py makes and checks the tallies
     there = {f"{d}/{p.name}" for d in ("samples", "tests/runs") for p in (HERE / d).iterdir()}
     faults += sorted(there - known)
     for fault in faults:

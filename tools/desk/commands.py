@@ -13,11 +13,14 @@ VERBS = {"acc": "accepted", "sup": "suppressed", "ins": "inserted"}
 
 
 def commands_of(path, names):
-    """The commands of a file as pairs of a number and its line: numbers or names, one or several a line, `#` starts a remark."""
-    title = "standard input" if path == "-" else path
+    """The commands of a file, as numbers: numbers or names, one or several a line, `#` starts a remark."""
+    title, content = "standard input" if path == "-" else path, content_of(path)
+    odd = re.search(rb"[^\t\n\r -\xff]", content)  # some of these are blanks to Python, and would go unseen
+    if odd:
+        raise Fault(f"{title} is no text of commands, for it has a byte {odd[0][0]}. `fretmere trace --bytes` takes a raw trace")
     numbers = {name: number for number, name in names.actions.items()}
     commands = []
-    for line, written in enumerate(content_of(path).decode("latin-1").split("\n"), 1):
+    for line, written in enumerate(content.decode("latin-1").split("\n"), 1):
         for word in written.partition("#")[0].split():
             number = int(word) if re.fullmatch(r"\d+", word, re.ASCII) else numbers.get(word)
             if number is None:

@@ -8,10 +8,6 @@ from .programs import Fault
 MEANINGS = {"and": "and\\nin parallel, halts with either side", "or": "or\\nin parallel, halts only with both sides",
             "seq-and": "seq-and\\nin series, halts with either side", "seq-or": "seq-or\\nin series, halts only with both sides",
             "leaf": "leaf", "trivial": "trivial\\naccepts everything", "unsatisfiable": "unsatisfiable\\nhas halted from the start"}
-LOOKS = {"next": "shape=box style=\"rounded,filled\" fillcolor=\"#dbe9f6\"", "ok": "shape=box style=filled fillcolor=\"#d5efd5\"",
-         "sup": "shape=box style=filled fillcolor=\"#fde3c4\"", "ins": "shape=box style=filled fillcolor=\"#fff6bf\"",
-         "acase": "shape=hexagon style=filled fillcolor=white", "spend": "shape=hexagon style=filled fillcolor=white",
-         "end": "shape=box style=\"rounded,filled\" fillcolor=\"#eeeeee\"", "halt": "shape=octagon style=filled fillcolor=\"#f6cfcf\""}
 
 
 def quoted(text):
@@ -27,25 +23,24 @@ def named(names, number, kind):
     return f"{number} {names.nodes[number]}: {kind}" if number in names.nodes else f"{number}: {kind}"
 
 
-def step_label(step, names):
+def step_label(step, names, look):
     """The step's offset, its label if it has one, and its words without the targets, which the arrows show."""
     label = names.steps.get((step.node.number, step.offset))
-    shown = names.phrase(step.words[:len(step.words) - len(step.targets())], None)
+    shown = names.phrase(step.words[:len(step.words) - len(step.targets())], None) + look.note(step)
     return f"{step.offset} {label}\\n{shown}" if label else f"{step.offset}: {shown}"
 
 
-def leaf(node, names):
+def leaf(node, names, look):
     """A leaf as a cluster with its steps."""
     actions, _, start = names.phrase(node.words, None)[len("leaf "):].rpartition(" ")
     name = f" {names.nodes[node.number]}" if node.number in names.nodes else ""
     title = f"leaf {node.number}{name}: {actions}" + (f", counter from {start}" if start != "0" else "")
-    yield f"  subgraph cluster{node.number} {{ label={quoted(title)} style=rounded color=\"#888888\" margin=12"
+    yield f"  subgraph cluster{node.number} {{ label={quoted(title)} {look.leaf(node)} margin=12"
     for step in node.steps:
-        yield f"    s{node.number}_{step.offset} [label={quoted(step_label(step, names))} {LOOKS[step.words[0]]}]"
+        yield f"    s{node.number}_{step.offset} [label={quoted(step_label(step, names, look))} {look.step(step)}]"
     for step in node.steps:
         for way, target in step.targets():
-            back = " color=\"#999999\"" if target <= step.offset else ""
-            yield f"    s{node.number}_{step.offset} -> s{node.number}_{target} [label={spaced(way)}{back}]"
+            yield f"    s{node.number}_{step.offset} -> s{node.number}_{target} [label={spaced(way)}{look.arrow(step, target)}]"
     yield "  }"
 
 
@@ -57,17 +52,18 @@ def pair(node):
     yield f"  {{ rank=same n{left} -> n{right} [style=invis] }}"
 
 
-def dot(nodes, names):
+def dot(nodes, names, look):
     """The diagram in dot's language: the tree, and below each leaf of it the box of its steps."""
     yield "digraph policy {"
-    yield "  compound=true nodesep=0.3 ranksep=0.4 fontname=\"Helvetica\""
+    yield f"  compound=true nodesep=0.3 ranksep=0.4 fontname=\"Helvetica\" {look.caption()}"
     yield "  node [fontname=\"Helvetica\" fontsize=11 margin=\"0.1,0.05\"] edge [fontname=\"Helvetica\" fontsize=10]"
     for node in nodes:
-        yield f"  n{node.number} [shape=ellipse label={quoted(named(names, node.number, MEANINGS[node.words[0]]))}]"
+        label = named(names, node.number, MEANINGS[node.words[0]]) + look.share(node)
+        yield f"  n{node.number} [shape=ellipse label={quoted(label)}{look.node(node)}]"
         if records.NODES[node.words[0]] == "node node":
             yield from pair(node)
         elif node.steps:
-            yield from leaf(node, names)
+            yield from leaf(node, names, look)
             yield f"  n{node.number} -> s{node.number}_0 [lhead=cluster{node.number} arrowhead=none style=dashed]"
     yield "}"
 
@@ -77,6 +73,6 @@ def demand_dot():
         raise Fault("draw needs the program `dot` of Graphviz, and it is not on the PATH (package graphviz)", 2)
 
 
-def svg(nodes, names):
-    given = "\n".join(dot(nodes, names)).encode()
+def svg(nodes, names, look):
+    given = "\n".join(dot(nodes, names, look)).encode()
     return subprocess.run(["dot", "-Tsvg"], input=given, stdout=subprocess.PIPE, check=True).stdout

@@ -18,6 +18,7 @@ REASONS = {
     9: "one side of a parallel pair inserts or suppresses what the other side regulates",
     10: "a node's spread, a bound on what it inserts in one call, is above 255",
     13: "the command is above 63",
+    15: "no room is left for the events of another call",
 }
 
 

@@ -3,7 +3,7 @@ use Prim.Native.Nat.{ℕ, zero, suc, _≤_}
 use native.Mathlib.Omega.{arith}
 use mathlib.Core.Path.{_≡_, refl, sym, ap, ap₂, _∙_, subst}
 use mathlib.Core.Bool.{Bool, true, false, _&&_}
-use mathlib.Core.List.{[]}
+use mathlib.Core.List.{List, []}
 use lib.Dec.{T}
 use lib.ListN.{length, getD, replicate}
 use Rattle.actions.specs.Sets.{Action, ActionSet, has}
@@ -23,6 +23,9 @@ use Rattle.spec_turns.specs.Saved.{stateSize, cells, statusAt, load, saved, fit
 use Rattle.spec_turns.specs.Entries.{carriedOut, carried}
 use Rattle.laws_turns.proofs.Fits.{status-at}
 use Rattle.laws_turns.proofs.NoChange.{saved-load, unasked, decided-quiet}
+use Rattle.spec_trace.specs.Tallies.{stepsIf}
+use Rattle.spec_trace.specs.Traces.{ranBy}
+use Rattle.spec_trace.proofs.TallyLaws.{steps-none, steps-accepts}
 use Rattle.turn_paths.specs.Memory.{Mem, held}
 use Rattle.turn_paths.proofs.Frames.{held-same}
 use Rattle.turn_memory.proofs.CellLaws.{view-same}
@@ -40,7 +43,7 @@ use Rattle.call_answer.specs.Requests.{asked}
 use Rattle.call_answer.specs.Replies.{spoken, Gave}
 use Rattle.call_answer.specs.Ends.{Ended}
 use Rattle.call_answer.proofs.EndLaws.{ended}
-use Rattle.call_phase.specs.Phased.{Ready, eventsOf, Phased, Played}
+use Rattle.call_phase.specs.Phased.{Ready, itemsOf, eventsOf, Phased, Played}
 use Rattle.call_carry.specs.Calls.{Counted, asksRoot, Runs}
 
 -- ---- the memory of a call
@@ -149,6 +152,42 @@ closed policy state room ok size small fit {b} f g e =
     ap isRunning (sym (root-read policy state)) ∙ ap (λ (k : ℕ). isRunning (statusOf k)) (sym f) ∙ sym g ∙ e in
     subst (λ (p : Process). Gave (carried t p room) (Answered 0 b) state room) (sym (decided-quiet t (load t (cells state)) stopped))
     (record { answer = ended ok 0 same f .answer; state = same; events = sym (put-none room 0) })
+
+-- ---- the steps of a call
+
+module _ (counting : Bool) (policy : Bytes) (cs : List ℕ) {cs′ : List ℕ} where
+  pub steps-from : (ph : Phase) {s s′ : State} → s ≡ s′ → cs′ ≡ stepsIf counting policy (itemsOf (tree policy) ph s) cs → cs′ ≡ stepsIf counting policy (itemsOf (tree policy) ph s′) cs
+  steps-from ph e f = f ∙ ap (λ (x : State). stepsIf counting policy (itemsOf (tree policy) ph x) cs) e
+
+  pub opened-steps : (state : Bytes) {s : State} → s ≡ fresh (tree policy) → cs′ ≡ stepsIf counting policy (itemsOf (tree policy) after s) cs
+      → cs′ ≡ stepsIf counting policy (ranBy policy opening state) cs
+  unfolding ranBy itemsOf call
+  opened-steps state e f = f ∙ ap (λ (x : State). stepsIf counting policy (itemsOf (tree policy) after x) cs) e
+
+  pub carried-steps : (q : Request) (state : Bytes) {s : State} → s ≡ load (tree policy) (cells state) → cs′ ≡ stepsIf counting policy (items (trace (call (tree policy) q s))) cs
+      → cs′ ≡ stepsIf counting policy (ranBy policy q state) cs
+  unfolding ranBy
+  carried-steps q state e f = f ∙ ap (λ (x : State). stepsIf counting policy (items (trace (call (tree policy) q x))) cs) e
+
+  pub steps-as : (state : Bytes) {x y : Call} → x ≡ y → cs′ ≡ stepsIf counting policy (ranBy policy (asked y) state) cs → cs′ ≡ stepsIf counting policy (ranBy policy (asked x) state) cs
+  steps-as state e f = f ∙ ap (λ (z : Call). stepsIf counting policy (ranBy policy (asked z) state) cs) (sym e)
+
+module _ (counting : Bool) (policy state : Bytes) (cs : List ℕ) where
+  -- an action that the root is not asked about runs none
+  pub stayed-steps : (a : Action) → (isRunning (statusOf (statusAt (cells state) 0)) && has (regulated (tree policy)) a) ≡ false
+      → cs ≡ stepsIf counting policy (ranBy policy (offer a) state) cs
+  unfolding ranBy verdict quiet items trace
+  stayed-steps a e =
+      sym (ap (λ (p : Process). stepsIf counting policy (items (trace p)) cs) (unasked (tree policy) a (load (tree policy) (cells state)) (root-asked policy state a ∙ e))
+      ∙ steps-accepts counting policy a [] cs ∙ steps-none counting policy cs)
+
+  -- nor does closing a decided root
+  pub closed-steps : {b : ℕ} {v : Bool} → b ≡ statusAt (cells state) 0 → v ≡ isRunning (statusOf b) → v ≡ false → cs ≡ stepsIf counting policy (ranBy policy close state) cs
+  unfolding ranBy call quiet items trace
+  closed-steps f g e =
+      sym (ap (λ (p : Process). stepsIf counting policy (items (trace p)) cs) (decided-quiet (tree policy) (load (tree policy) (cells state))
+      (ap isRunning (sym (root-read policy state)) ∙ ap (λ (k : ℕ). isRunning (statusOf k)) (sym f) ∙ sym g ∙ e))
+      ∙ steps-none counting policy cs)
 
 -- ---- which call it is
 

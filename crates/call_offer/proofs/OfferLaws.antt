@@ -16,6 +16,8 @@ use Rattle.laws_check.proofs.LawfulTree.{lawful, spread-255}
 use Rattle.spec_turns.specs.Status.{Status, isRunning, isHalted}
 use Rattle.spec_turns.specs.State.{State, status}
 use Rattle.spec_turns.specs.Process.{Item, Out, Process, stop, does, both, then, outcome, trace, items}
+use Rattle.spec_trace.specs.Tallies.{stepsIf}
+use Rattle.spec_trace.proofs.TallyLaws.{steps-then, steps-accepts, steps-suppresses}
 use Rattle.spec_turns.specs.Turn.{Phase, before, after, isAsked, perhaps, verdict, phase, offer, call}
 use Rattle.spec_turns.specs.Events.{Event, eventOf, events}
 use Rattle.laws_turns.proofs.Count.{events-append}
@@ -26,7 +28,7 @@ use Rattle.turn_memory.specs.Phases.{phaseOf}
 use Rattle.turn_sides.proofs.StatusBytes.{phase-before}
 use Rattle.call_answer.specs.Ends.{verdicts, Added}
 use Rattle.call_answer.proofs.EndLaws.{few-verdicts}
-use Rattle.call_phase.specs.Phased.{eventsOf, Phased, Played}
+use Rattle.call_phase.specs.Phased.{itemsOf, eventsOf, Phased, Played}
 use Rattle.call_offer.proofs.Added.{added-then}
 
 -- ---- what follows a process
@@ -61,6 +63,17 @@ told-after x a p = go (isHalted (status (x .state)))
     go true = refl
     go false = refl
 
+-- a verdict is no step
+steps-after : (counting : Bool) (policy : Bytes) (x : Out) (a : Action) (p : Process) (cs : List ℕ)
+    → stepsIf counting policy (items (trace (perhaps (not (isHalted (status (x .state)))) (verdict (x .suppressed) a) p))) cs ≡ stepsIf counting policy (items (trace p)) cs
+unfolding perhaps items trace verdict
+steps-after counting policy x a p cs = go (isHalted (status (x .state))) (x .suppressed)
+  where
+    go : (h u : Bool) → stepsIf counting policy (items (trace (perhaps (not h) (verdict u a) p))) cs ≡ stepsIf counting policy (items (trace p)) cs
+    go true u = refl
+    go false true = steps-suppresses counting policy a (items (trace p)) cs
+    go false false = steps-accepts counting policy a (items (trace p)) cs
+
 perhaps-outcome : (b : Bool) (i : Item) (p : Process) → outcome (perhaps b i p) ≡ outcome p
 unfolding perhaps outcome
 perhaps-outcome true i p = refl
@@ -87,6 +100,16 @@ module _ (t : Tree) (a : Action) (s : State) (asked : isAsked (regulated t) (bef
   turn-told =
       ap (λ (c : Process). events (items (trace c))) turn-call ∙ events-then (phase t (before a) s) judging
       ∙ ap (λ (es : List Event). eventsOf t (before a) s ++ es) (told-after x a (phase t after (x .state)))
+
+  -- So are the steps: the verdict is none.
+  pub turn-steps : (counting : Bool) (policy : Bytes) (cs : List ℕ)
+      → stepsIf counting policy (items (trace (call t (offer a) s))) cs ≡ stepsIf counting policy (itemsOf t after (x .state)) (stepsIf counting policy (itemsOf t (before a) s) cs)
+  unfolding judging itemsOf
+  turn-steps counting policy cs =
+      ap (λ (c : Process). stepsIf counting policy (items (trace c)) cs) turn-call
+      ∙ ap (λ (xs : List Item). stepsIf counting policy xs cs) (items-then (phase t (before a) s) judging)
+      ∙ steps-then counting policy (items (trace (phase t (before a) s))) (items (trace (judging x))) cs
+      ∙ steps-after counting policy x a (phase t after (x .state)) (stepsIf counting policy (items (trace (phase t (before a) s))) cs)
 
   turn-ends : outcome (call t (offer a) s) ≡ outcome (phase t after (x .state))
   unfolding judging
@@ -129,6 +152,14 @@ module _ {policy : Bytes} (ok : Passed policy) (a : Action) {m m₁ : Mem} (aske
         turn-bound 1 t (lawful policy ok) a s,
         spread-255 policy ok,
       )
+
+  -- the steps of both phases
+  pub steps-both : (counting : Bool) (cs : List ℕ) {cs₁ cs₂ : List ℕ} → cs₁ ≡ stepsIf counting policy (itemsOf t (phaseOf a) s) cs → cs₂ ≡ stepsIf counting policy (itemsOf t after s₁) cs₁
+      → cs₂ ≡ stepsIf counting policy (items (trace (call t (offer a) s))) cs
+  steps-both counting cs {cs₁} e f =
+      f ∙ ap (stepsIf counting policy (itemsOf t after s₁)) (e ∙ ap (λ (ph : Phase). stepsIf counting policy (itemsOf t ph s) cs) (asked-phase t a s asked))
+      ∙ ap (λ (y : Out). stepsIf counting policy (itemsOf t after (y .state)) (stepsIf counting policy (itemsOf t (before a) s) cs)) (sym (begun .ends))
+      ∙ sym (turn-steps t a s asked counting policy cs)
 
   -- there is room for the verdict
   pub verdict-room : length room₁ ≡ length room → 2 * n₁ + 2 ≤ length room₁

@@ -18,6 +18,7 @@ use Rattle.spec_turns.specs.Turn.{Phase, phase}
 use Rattle.spec_turns.specs.Events.{Event, inserted, eventBytes}
 use Rattle.laws_turns.proofs.Spread.{phase-bound, events-count}
 use Rattle.laws_turns.proofs.Throughout.{phase-no-verdict}
+use Rattle.spec_trace.specs.Tallies.{stepsIf}
 use Rattle.turn_paths.specs.Run.{halts, first}
 use Rattle.turn_paths.specs.Memory.{Mem, held, ranOf}
 use Rattle.turn_paths.specs.Paths.{Feeder, done, Turned}
@@ -34,7 +35,7 @@ use Rattle.turn_tables.proofs.TableLaws.{tabled-same}
 use Rattle.turn_told.specs.Sent.{Kept, Sent}
 use Rattle.turn_place.specs.Places.{Stands, Keeps}
 use Rattle.turn_node.specs.Turns.{letsIn, Turns, TurnsAt}
-use Rattle.call_phase.specs.Phased.{Ready, eventsOf, Phased}
+use Rattle.call_phase.specs.Phased.{Ready, itemsOf, eventsOf, Phased}
 use Rattle.call_phase.proofs.Wholes.{phase-items, phase-outcome, events-lets}
 
 -- ---- the root
@@ -76,20 +77,23 @@ turned-done (suc zero) h = h
 turned-done (suc (suc n)) h = absurd (no-stop h)
 
 -- the root's turn was run, with these items
-record Went (t : Tree) (ph : Phase) (ws ws′ : Words) (u : Bool) : Type 0 where
+record Went (counting : Bool) (policy : Bytes) (cs cs′ : List ℕ) (t : Tree) (ph : Phase) (ws ws′ : Words) (u : Bool) : Type 0 where
+  steps : cs′ ≡ stepsIf counting policy (itemsOf t ph (held t (memoryOf ws))) cs
   inserts : List Action
   told : eventsOf t ph (held t (memoryOf ws)) ≡ map inserted inserts
   tells : length inserts ≤ 255 → Tells ws [] → Tells ws′ inserts
   ends : outcome (phase t ph (held t (memoryOf ws))) ≡ record { state = held t (memoryOf ws′); suppressed = u }
   keeps : Keeps ws ws′
 
-went : {t : Tree} {ph : Phase} {ws ws′ : Words} (x : ℕ) → Turns [] t ph ws ws′ (ended x) → Went t ph ws ws′ (eqb x 1)
-unfolding eventsOf
-went {t} {ph} {ws} {ws′} x h =
+went : {t : Tree} {ph : Phase} {ws ws′ : Words} {counting : Bool} {policy : Bytes} {cs cs′ : List ℕ} (x : ℕ) → Turns counting policy cs cs′ [] t ph ws ws′ (ended x)
+    → Went counting policy cs cs′ t ph ws ws′ (eqb x 1)
+unfolding itemsOf eventsOf
+went {t} {ph} {ws} {ws′} {counting} {policy} {cs} x h =
     let s : State = held t (memoryOf ws) in
     let y : Out = record { state = held t (memoryOf ws′); suppressed = eqb x 1 } in
     let e : ranOf t ph s ≡ first (h .items) (halts y) = at-root (turned-done x (h .turned)) in
     record {
+      steps = h .steps ∙ ap (λ (xs : List Item). stepsIf counting policy xs cs) (sym (phase-items t ph s (h .items) y e));
       inserts = letsIn (h .items);
       told = events-lets (phase t ph s) (phase-no-verdict t ph s) ∙ ap (λ (xs : List Item). map inserted (letsIn xs)) (phase-items t ph s (h .items) y e);
       tells = λ few none. h .told .more [] none (omega (arith, few));
@@ -97,11 +101,15 @@ went {t} {ph} {ws} {ws′} x h =
       keeps = h .keeps;
     }
 
-module _ {policy : Bytes} {ph : Phase} {ws ws₁ : Words} (x : ℕ) (ready : Ready policy ws) (turned : TurnsAt policy 0 ph ws ws₁ x) where
-  gone : Went (tree policy) ph ws ws₁ (eqb x 1)
+module _ {policy : Bytes} {ph : Phase} {ws ws₁ : Words} (x : ℕ) (ready : Ready policy ws) {counting : Bool} {cs cs₁ : List ℕ} (turned : TurnsAt counting policy cs cs₁ 0 ph ws ws₁ x) where
+  gone : Went counting policy cs cs₁ (tree policy) ph ws ws₁ (eqb x 1)
   gone =
-      went x (subst (λ (t : Tree). Turns [] t ph ws ws₁ (ended x)) (sym (tree-top policy))
-      (subst (λ (fs : List Feeder). Turns fs (treeAt policy 0) ph ws ws₁ (ended x)) (root-path policy ws (ready .tabled .linked .root)) turned))
+      went x (subst (λ (t : Tree). Turns counting policy cs cs₁ [] t ph ws ws₁ (ended x)) (sym (tree-top policy))
+      (subst (λ (fs : List Feeder). Turns counting policy cs cs₁ fs (treeAt policy 0) ph ws ws₁ (ended x)) (root-path policy ws (ready .tabled .linked .root)) turned))
+
+  -- its steps are counted
+  pub stepped : cs₁ ≡ stepsIf counting policy (itemsOf (tree policy) ph (held (tree policy) (memoryOf ws))) cs
+  stepped = gone .steps
 
   abbrev es : List Action
   es = gone .inserts

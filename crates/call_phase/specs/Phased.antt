@@ -8,7 +8,7 @@ use Rattle.spec_policy.specs.Bytes.{Bytes}
 use Rattle.spec_policy.specs.Tree.{Tree}
 use Rattle.spec_check.specs.Passed.{Passed}
 use Rattle.spec_turns.specs.State.{State}
-use Rattle.spec_turns.specs.Process.{Process, trace, items, outcome}
+use Rattle.spec_turns.specs.Process.{Item, Process, trace, items, outcome}
 use Rattle.spec_turns.specs.Turn.{Phase, phase}
 use Rattle.spec_turns.specs.Events.{Event, events}
 use Rattle.turn_paths.specs.Memory.{Mem, held}
@@ -24,7 +24,10 @@ pub record Ready (policy : Bytes) (ws : Words) : Type 0 where
   pub tabled : Tabled policy ws
   pub none : Tells ws []
 
--- the events of a tree's phase
+-- the items of a tree's phase, and its events
+unfoldable pub itemsOf : Tree → Phase → State → List Item
+itemsOf t ph s = items (trace (phase t ph s))
+
 unfoldable pub eventsOf : Tree → Phase → State → List Event
 eventsOf t ph s = events (items (trace (phase t ph s)))
 

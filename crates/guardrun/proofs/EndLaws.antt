@@ -1,35 +1,12 @@
 -- Laws of the policy's end among the bytes read.
 use Prim.Native.Nat.{ℕ, _+_, _-_, _≤_, _<_}
 use native.Mathlib.Omega.{arith}
-use mathlib.Core.Path.{_≡_, refl, ap, sym, _∙_}
+use mathlib.Core.Path.{_≡_, ap, sym, _∙_}
 use lib.ListN.{length}
-use mathlib.Core.Bool.{Bool, true, false}
-use lib.Dec.{ltb}
-use borrow.Author.Tests.{lt-ltb, le-ltb, ltb-false}
 use borrow.Rule.Slice.PartMut.{putMid, midOf, mid-len, take-put}
 use Rattle.spec_policy.specs.Bytes.{Bytes, spelt, number}
-use Rattle.guardrun.specs.Printed.{policyEnd}
-
-pub end-least : (n : ℕ) → n < 2 → 2 ≡ policyEnd n
-unfolding policyEnd
-end-least n h = rw (policyEnd, lt-ltb n 2 h) refl
-
-pub end-most : (n : ℕ) → 2 ≤ n → 6646 < n → 6646 ≡ policyEnd n
-unfolding policyEnd
-end-most n g h = rw (policyEnd, le-ltb n 2 g, lt-ltb 6646 n h) refl
-
-pub end-said : (n : ℕ) → 2 ≤ n → n ≤ 6646 → n ≡ policyEnd n
-unfolding policyEnd
-end-said n g h = rw (policyEnd, le-ltb n 2 g, le-ltb 6646 n h) refl
-
-pub end-from : (n : ℕ) → 2 ≤ policyEnd n
-unfolding policyEnd
-end-from n = go (ltb n 2) (ltb 6646 n) refl
-  where
-    go : (a b : Bool) → ltb n 2 ≡ a → 2 ≤ elim a [ true ↦ 2 | false ↦ elim b [ true ↦ 6646 | false ↦ n ] ]
-    go true b e = omega arith
-    go false true e = omega arith
-    go false false e = ltb-false n 2 e
+use Rattle.run_input.specs.Ends.{policyEnd}
+use Rattle.run_input.proofs.EndLaws.{end-from}
 
 -- bytes laid in after the first two leave the number in those
 pub said-kept : (bs ys : Bytes) (k : ℕ) → 2 ≤ length bs → number (putMid 2 k bs ys) 0 2 ≡ number bs 0 2

@@ -8,7 +8,8 @@ use Rattle.spec_text.specs.Opened.{opened as texts}
 use Rattle.text_append.specs.Refusal.{spotWords, refusal}
 use Rattle.run_report.specs.Lines.{line, word, kind, lines}
 use Rattle.run_report.specs.Said.{heading, isLast, ending, lastIfRefused, said}
-use Rattle.guardrun.specs.Printed.{told, goesOn, policyEnd, printed}
+use Rattle.run_input.specs.Ends.{policyEnd}
+use Rattle.guardrun.specs.Printed.{told, goesOn, printed}
 use Rattle.guardrun.specs.Worked.{cases, AllPrinted}
 
 pub all-printed : AllPrinted cases

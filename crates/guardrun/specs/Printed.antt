@@ -2,14 +2,13 @@
 use Prim.Native.Nat.{ℕ}
 use mathlib.Core.Bool.{true, false}
 use mathlib.Core.List.{List, [], _∷_, _++_}
-use lib.Dec.{ltb}
 use lib.ListN.{take, drop, replicate}
 use Rattle.spec_policy.specs.Bytes.{Bytes, number}
 use Rattle.spec_turns.specs.Turn.{Request, opening, offer, close}
 use Rattle.spec_turns.specs.Saved.{stateSize}
 use Rattle.spec_turns.specs.Entries.{eventRoom, entry}
 use Rattle.run_report.specs.Said.{said}
-use Rattle.spec_policy.specs.Records.{mostFile}
+use Rattle.run_input.specs.Ends.{policyEnd}
 
 -- a call's text, and unless it is the last, what follows from the bytes that the call left
 unfoldable pub told : Bytes → Request → Bytes → Bytes → (Bytes → Bytes → Bytes) → Bytes
@@ -22,10 +21,6 @@ told policy q state room rest =
 unfoldable pub goesOn : Bytes → List ℕ → Bytes → Bytes → Bytes
 goesOn policy [] state room = told policy close state room (λ _ _. [])
 goesOn policy (a ∷ rest) state room = told policy (offer a) state room (goesOn policy rest)
-
--- "a policy (the first two bytes say how many bytes, at most 6,646 taken)": where it ends, the two bytes with it
-unfoldable pub policyEnd : ℕ → ℕ
-policyEnd n = elim (ltb n 2) [ true ↦ 2 | false ↦ elim (ltb mostFile n) [ true ↦ mostFile | false ↦ n ] ]
 
 -- All that is printed, from all that is read.
 unfoldable pub printed : Bytes → Bytes

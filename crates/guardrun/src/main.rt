@@ -7,34 +7,19 @@ ghost use mathlib.Core.Bool.{true, false};
 ghost use Prim.Native.Nat.{_≤_};
 ghost use lib.ListN.{length};
 ghost use Rattle.spec_policy.specs.Bytes.{number};
-ghost use Rattle.guardrun.specs.Printed.{policyEnd};
 ghost use Rattle.spec_policy.specs.Records.{mostFile};
+ghost use Rattle.run_input.specs.Ends.{policyEnd};
 use crate::calls::tell;
 use call_answer::Call;
 use file_records::MOST_FILE;
-use file_records::word16;
 use libc::STDIN_FILENO;
 use libc::STDOUT_FILENO;
+use run_input::policy_end;
 use run_report::Told;
 use turn_state::STATE_SIZE;
 use turn_told::EVENT_ROOM;
 
 mod calls;
-
-// "the first two bytes say how many bytes, at most 6,646 taken": where the policy ends, the two bytes with it.
-fn policy_end(policy: &[u8]) -> usize
-    requires { ⌜ 2 ≤ length (now policy) ⌝ }
-    ensures { λ r. ⌜ (r ≡ policyEnd (number (now (policy .entry)) 0 2)) × (2 ≤ r) × (r ≤ mostFile) ⌝ }
-{
-    let said = word16(policy, 0) as usize;
-    if said < 2 {
-        return 2;
-    }
-    if said > MOST_FILE {
-        return MOST_FILE;
-    }
-    said
-}
 
 // Reads the policy, and no byte after it; answers how many bytes there were.
 fn read_policy(policy: &mut [u8]) -> usize

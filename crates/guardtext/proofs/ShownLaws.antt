@@ -1,23 +1,22 @@
 -- What is printed of a file, as the code finds it.
 use Prim.Native.Char.{code}
-use Prim.Native.Nat.{ℕ, _-_, _*_, _≤_, _<_}
+use Prim.Native.Nat.{ℕ, _-_, _≤_, _<_}
 use native.Mathlib.Omega.{arith}
 use mathlib.Core.Path.{_≡_, refl, sym, ap, ap₂, _∙_}
 use mathlib.Core.Bool.{Bool, true, false}
 use mathlib.Core.List.{[], _∷_, _++_, append-assoc}
 use lib.Dec.{ltb}
-use lib.ListN.{length, take, drop, length-append, length-take}
+use lib.ListN.{length, take, drop, length-append}
 use borrow.Author.Tests.{lt-ltb, le-ltb, ltb-false}
 use Rattle.actions.specs.Sets.{ActionSet}
 use Rattle.spec_policy.specs.Bytes.{Bytes, Small}
-use Rattle.spec_policy.specs.Records.{nodeCount, stepCount, nodePlace, stepPlace, nodeBytes, stepBytes}
+use Rattle.spec_policy.specs.Records.{nodeCount, nodePlace, stepPlace, nodeBytes, stepBytes}
 use Rattle.spec_policy.specs.Lists.{every}
 use Rattle.spec_policy.specs.Spots.{Fault, bareFault}
-use Rattle.spec_policy.proofs.ByteLaws.{small-take, small-drop}
 use Rattle.spec_check.specs.Layout.{CountsFit}
 use Rattle.spec_check.specs.Check.{Answer, passes, refused, check}
 use Rattle.spec_check.specs.Passed.{breaks}
-use Rattle.spec_check.proofs.Passed.{passed, refused-number}
+use Rattle.spec_check.proofs.Passed.{refused-number}
 use Rattle.spec_check.proofs.Rows.{counts-fit}
 use Rattle.laws_check.proofs.Inside.{small-fault}
 use Rattle.spec_text.specs.Words.{ascii, newline, space}
@@ -34,48 +33,19 @@ use Rattle.text_append.specs.Added.{Added, Tells}
 use Rattle.text_append.proofs.AddedLaws.{named, tells, refusal-short}
 use Rattle.text_spot.proofs.ShortLaws.{fault-short}
 use Rattle.text_print.proofs.Lengths.{records-less}
+use Rattle.text_print.proofs.FileLaws.{pass-fits, nodes-few, steps-few, nodes-are, steps-are, nodes-small, steps-small}
 use Rattle.guardtext.specs.Shown.{textRoom, recordsText, heading, refusedText, answered, shown, ReadsBack}
 
 -- ---- files whose counts are to be believed
-
-pub pass-fits : {file : Bytes} {r e : ActionSet} → check file ≡ passes r e → CountsFit file
-pass-fits {file} {r} {e} h = counts-fit file (passed file r e h .kept3)
 
 pub refused-fits : {file : Bytes} {f : Fault} → check file ≡ refused f → 4 ≤ f .number → CountsFit file
 unfolding breaks
 refused-fits {file} {f} h l = counts-fit file (refused-number file f h .lower-kept 3 (omega arith))
 
 -- the records lie behind the front: `at` is where the steps' begin
-module _ (file : Bytes) (fit : CountsFit file) where
-  pub has-front : 6 ≤ length file
-  unfolding stepPlace nodePlace
-  has-front = omega (arith, fit .long)
-
-  pub few-nodes : (n : ℕ) → n ≡ nodeCount file → n ≤ 255
-  few-nodes n e = omega (arith, fit .few-nodes)
-
-  module _ (at : ℕ) (e : at ≡ nodePlace (nodeCount file)) where
-    pub after-front : 6 ≤ at
-    unfolding nodePlace
-    after-front = omega (arith, e)
-
-    pub in-file : at ≤ length file
-    unfolding stepPlace nodePlace
-    in-file = omega (arith, e, fit .long)
-
-    pub nodes-are : take (at - 6) (drop 6 file) ≡ nodeBytes file
-    unfolding nodeBytes nodePlace
-    nodes-are = let n : at - 6 ≡ 16 * nodeCount file = omega (arith, e) in ap (λ (k : ℕ). take k (drop 6 file)) n
-
-    pub steps-are : take (length file - at) (drop at file) ≡ stepBytes file
-    unfolding stepBytes stepPlace nodePlace
-    steps-are =
-        let m : length file - at ≡ 12 * stepCount file = omega (arith, e, fit .long) in
-        ap₂ (λ (k l : ℕ). take k (drop l file)) m e
-
-    pub records-are : shownRecords (take (at - 6) (drop 6 file)) (take (length file - at) (drop at file)) ≡ recordsText file
-    unfolding recordsText
-    records-are = ap₂ shownRecords nodes-are steps-are
+pub records-are : (file : Bytes) → CountsFit file → (at : ℕ) → at ≡ nodePlace (nodeCount file) → shownRecords (take (at - 6) (drop 6 file)) (take (length file - at) (drop at file)) ≡ recordsText file
+unfolding recordsText
+records-are file fit at e = ap₂ shownRecords (nodes-are file fit at e) (steps-are file fit at e)
 
 -- ---- which of the texts
 
@@ -99,37 +69,21 @@ shown-short input a h e = rw (shown, le-ltb 6646 (length input) h) (ap (λ (x : 
 -- ---- room enough
 
 module _ (file : Bytes) (small : Small file) where
-  nodes-small : Small (nodeBytes file)
-  unfolding nodeBytes
-  nodes-small = small-take (16 * nodeCount file) (drop 6 file) (small-drop 6 file small)
-
-  steps-small : Small (stepBytes file)
-  unfolding stepBytes
-  steps-small = small-take (12 * stepCount file) (drop (nodePlace (nodeCount file)) file) (small-drop (nodePlace (nodeCount file)) file small)
-
   module _ (fit : CountsFit file) where
-    nodes-few : length (nodeBytes file) ≤ 496
-    unfolding nodeBytes
-    nodes-few = simp length-take (omega (arith, fit .few-nodes))
-
-    steps-few : length (stepBytes file) ≤ 6144
-    unfolding stepBytes
-    steps-few = simp length-take (omega (arith, fit .few-steps))
-
     -- with 700 bytes to spare
     pub records-short : length (recordsText file) ≤ 130_340
     unfolding recordsText
     records-short =
-        let a = nodes-few in
-        let b = steps-few in
-        omega (arith, records-less (nodeBytes file) (stepBytes file) nodes-small steps-small (omega arith) (omega arith))
+        let a = nodes-few file fit in
+        let b = steps-few file fit in
+        omega (arith, records-less (nodeBytes file) (stepBytes file) (nodes-small file small) (steps-small file small) (omega arith) (omega arith))
 
   module _ (f : Fault) (h : check file ≡ refused f) where
     heading-short : CountsFit file → length (heading (nodeBytes file) f) ≤ 111
     unfolding heading ascii
     heading-short fit =
         let s = small-fault file f h in
-        let l = nodes-few fit in
+        let l = nodes-few file fit in
         let a = fault-short (nodeBytes file) (omega arith) f (omega (arith, s .number-small)) (λ p e. omega (arith, s .spot-small p e)) in
         simp length-append (omega (arith, a))
 

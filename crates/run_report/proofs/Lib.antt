@@ -1,3 +1,3 @@
 mod LineLaws
-mod RoomLaws
+pub mod RoomLaws
 mod SpokenLaws

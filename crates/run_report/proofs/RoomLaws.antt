@@ -20,7 +20,7 @@ line-length : (what about : Bytes) → length (line what about) ≡ length what 
 unfolding line ascii
 line-length what about = simp length-append
 
-word-length : (s : Status) → length (word s) ≤ 7
+pub word-length : (s : Status) → length (word s) ≤ 7
 unfolding word ascii
 word-length running = omega arith
 word-length ended = omega arith

@@ -35,7 +35,7 @@ pub struct Told {
 // ---- lines
 
 // "S is running, ended, left, right or halted"; the root is never dropped
-fn append_status(out: &mut [u8], at: usize, s: u8) -> usize
+pub fn append_status(out: &mut [u8], at: usize, s: u8) -> usize
     ensures { λ r. ⌜ Added (now (out .entry)) at (word (statusOf s)) (now (out .exit)) r ⌝ }
 {
     match s {

@@ -31,7 +31,7 @@ steps-shown (suc k) j ss t e =
 record-long : (s : Sort) (i : ℕ) (bs t : Bytes) → recordText s i bs ≡ text t → length bs ≡ size s
 record-long s i bs t e = let x = record-read s i bs t e in sym (ap length (x .again)) ∙ record-size s (countIn s bs) (x .fields)
 
-steps-long : (k j : ℕ) (ss t : Bytes) → stepsText k j ss ≡ text t → size step * k ≤ length ss
+pub steps-long : (k j : ℕ) (ss t : Bytes) → stepsText k j ss ≡ text t → size step * k ≤ length ss
 unfolding size
 steps-long zero j ss t e = omega arith
 steps-long (suc k) j ss t e =

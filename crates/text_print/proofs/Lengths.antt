@@ -111,7 +111,7 @@ module _ (s : Sort) (i : ℕ) (bs : Bytes) (few : i < 1000) (small : Small bs) (
       let e = ends-less s in
       simp length-append (omega (arith, decimal-below 2 i few, parted-less bs small, whole, e .0, e .1))
 
-  shown-less : length (shownRecord s i bs) ≤ 240
+  pub shown-less : length (shownRecord s i bs) ≤ 240
   unfolding shownRecord
   shown-less = go (recordText s i bs) refl
     where

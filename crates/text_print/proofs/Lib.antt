@@ -1,2 +1,3 @@
 mod PrintLaws
 pub mod Lengths
+pub mod FileLaws

@@ -134,7 +134,7 @@ loaded batch buffer after from to r h e f = (
 )
 
 -- what a call leaves at the start of a buffer, where the rest is as it was
-front : (now rest : Bytes) (n k : ℕ) → n ≡ k → length now ≡ k → take n (now ++ rest) ≡ now
+pub front : (now rest : Bytes) (n k : ℕ) → n ≡ k → length now ≡ k → take n (now ++ rest) ≡ now
 front now rest n k e f = take-at now rest n (f ∙ sym e)
 
 -- a call on its own parts

@@ -1,1 +1,2 @@
 pub mod CallLaws
+mod RunLaws

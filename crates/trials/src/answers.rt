@@ -3,11 +3,14 @@ ghost use mathlib.Core.Path.{_≡_};
 ghost use Prim.Native.Nat.{_+_, _-_, _≤_};
 ghost use lib.ListN.{length, take};
 ghost use Rattle.spec_check.specs.Check.{check};
-ghost use mathlib.Core.List.{_++_};
+ghost use mathlib.Core.List.{[], _∷_, _++_};
 ghost use Rattle.spec_policy.specs.Bytes.{spell};
 ghost use Rattle.spec_turns.specs.Entries.{entry};
 ghost use Rattle.call_answer.specs.Replies.{Gave};
 ghost use Rattle.faults.specs.Meaning.{faultOf};
+ghost use Rattle.spec_trace.specs.Traces as runs;
+ghost use Rattle.trace_run.specs.Reports.{stopValue, reportValue, Told};
+ghost use Rattle.trials.specs.Runs.{traceOf, traceCalled, stopFault, reportBytes, Traced};
 ghost use Rattle.trials.specs.Calls.{longestField, Placed, part, policyIn, request, called, fileCalled};
 ghost use Rattle.trials.specs.Calls.{refusalBytes, answerBytes, replyBytes, sizeBytes, Answers, Wrote};
 use crate::calls::Parts;
@@ -22,6 +25,12 @@ use file_writer::write;
 use guard::close;
 use guard::offer;
 use guard::open;
+use run_input::policy_part;
+use trace_run::ACTION_COUNTS;
+use trace_run::Report;
+use trace_run::Stop;
+use trace_run::follow_trace;
+use turn_tally::STEP_COUNTS;
 
 // A refusal's number and which record it is about, counted from 1, the highest byte first.
 fn refusal_bytes(fault: Fault) -> [u8; 3]
@@ -180,4 +189,104 @@ pub fn file_answer(batch: &[u8], parts: Parts, out: &mut [u8]) -> [u8; 5]
         &mut out[..of_out],
     );
     size_bytes(written)
+}
+
+// ---- a trace run
+
+// How a run ended, in bytes: the refusal, the actions judged, the events written, the root's status.
+fn report_bytes(fault: Fault, judged: usize, count: usize, status: u8) -> [u8; 12]
+    ensures { λ r. ⌜ r ≡ refusalBytes (faultOf fault) ++ (spell 4 judged ++ (spell 4 count ++ (status ∷ []))) ⌝ }
+{
+    let refusal = refusal_bytes(fault);
+    [
+        refusal[0],
+        refusal[1],
+        refusal[2],
+        ((judged >> 24) % 256) as u8,
+        ((judged >> 16) % 256) as u8,
+        ((judged >> 8) % 256) as u8,
+        ((judged >> 0) % 256) as u8,
+        ((count >> 24) % 256) as u8,
+        ((count >> 16) % 256) as u8,
+        ((count >> 8) % 256) as u8,
+        ((count >> 0) % 256) as u8,
+        status,
+    ]
+}
+
+fn stop_fault(stop: Stop) -> Fault
+    ensures { λ r. ⌜ ((z : runs.Stop) → stop ≡ stopValue z → faultOf r ≡ stopFault z) ⌝ }
+{
+    match stop {
+        Stop::Unrefused => bare_fault(0),
+        Stop::RefusedWith(fault) => fault,
+    }
+}
+
+fn traced_bytes(report: Report) -> [u8; 12]
+    ensures { λ r. ⌜ ((x : runs.Report) → report ≡ reportValue x → r ≡ reportBytes x) ⌝ }
+{
+    match report {
+        Report::Unopened(fault) => report_bytes(fault, 0, 0, 0),
+        Report::Followed(stop, judged, count, status) => {
+            report_bytes(stop_fault(stop), judged, count, status)
+        }
+    }
+}
+
+// A policy and its trace from one field.
+fn run_trace(
+    given: &[u8],
+    state: &mut [u8],
+    events: &mut [u8],
+    steps: &mut [u32; STEP_COUNTS],
+    actions: &mut [u32; ACTION_COUNTS],
+) -> Report
+    ensures { λ r. ⌜ Told (traceOf (now (given .entry)) (now (state .entry)) (now (events .entry)) (now (steps .entry)) (now (actions .entry)))
+        r (now (state .exit)) (now (events .exit)) (now (steps .exit)) (now (actions .exit)) ⌝ }
+{
+    let end = policy_part(given);
+    follow_trace(&given[..end], &given[end..], state, events, steps, actions)
+}
+
+// Makes the run on copies of its two buffers, which are left at the start of `state` and of `events`.
+pub fn trace_answer(
+    batch: &[u8],
+    parts: Parts,
+    state: &mut [u8],
+    events: &mut [u8],
+    steps: &mut [u32; STEP_COUNTS],
+    actions: &mut [u32; ACTION_COUNTS],
+) -> [u8; 12]
+    requires { ⌜ Placed (now batch) parts × (longestField ≤ length (now state)) × (longestField ≤ length (now events)) ⌝ }
+    ensures { λ r. ⌜ Traced (traceCalled (now (batch .entry)) (now (steps .entry)) (now (actions .entry))) r
+        (take (parts .state - (parts .policy + 2)) (now (state .exit)))
+        (take (parts .events - (parts .state + 2)) (now (events .exit)))
+        (now (steps .exit)) (now (actions .exit)) ⌝ }
+{
+    let policy_end = parts.policy;
+    let state_end = parts.state;
+    let events_end = parts.events;
+    let of_state = load(batch, policy_end + 2, state_end, state);
+    let of_events = load(batch, state_end + 2, events_end, events);
+    let report = run_trace(
+        &batch[3..policy_end],
+        &mut state[..of_state],
+        &mut events[..of_events],
+        steps,
+        actions,
+    );
+    traced_bytes(report)
+}
+
+// A count, its highest byte first.
+pub fn count_bytes(count: u32) -> [u8; 4]
+    ensures { λ r. ⌜ r ≡ spell 4 count ⌝ }
+{
+    [
+        ((count >> 24) % 256) as u8,
+        ((count >> 16) % 256) as u8,
+        ((count >> 8) % 256) as u8,
+        ((count >> 0) % 256) as u8,
+    ]
 }

@@ -1,17 +1,22 @@
 // Reads a batch of calls on standard input and writes their answers on standard output, both in bytes, to be compared with another
 // guard's. What can be said of bytes is said in `calls` and `answers`; what is here only reads and writes.
 ghost use mathlib.Core.Path.{_≡_};
-ghost use Prim.Native.Nat.{_≤_};
+ghost use Prim.Native.Nat.{_≤_, _<_};
 ghost use lib.ListN.{length};
+ghost use Rattle.trials.specs.Runs.{tallyStart, tallyCounts};
 ghost use Rattle.trials.specs.Calls.{longest, longestField, Placed, Taken};
 use crate::answers::call_answer;
+use crate::answers::count_bytes;
 use crate::answers::file_answer;
 use crate::answers::policy_answer;
+use crate::answers::trace_answer;
 use crate::calls::Call;
 use crate::calls::Parts;
 use crate::calls::find;
 use libc::STDIN_FILENO;
 use libc::STDOUT_FILENO;
+use trace_run::ACTION_COUNTS;
+use turn_tally::STEP_COUNTS;
 
 mod answers;
 mod calls;
@@ -69,6 +74,56 @@ fn write_file(batch: &[u8], parts: Parts, out: &mut [u8]) -> bool
     reply & told
 }
 
+const TALLY_COUNTS: usize = STEP_COUNTS + ACTION_COUNTS;
+
+// Where all counts of a tally begin.
+fn tally_start(action: u8) -> u32
+    ensures { λ r. ⌜ r ≡ tallyStart action ⌝ }
+{
+    if action == 0 {
+        return 0;
+    }
+    u32::MAX - (action as u32 - 1)
+}
+
+// A count of the tally: those of the steps first, then those of the actions.
+fn count_at(steps: &[u32; STEP_COUNTS], actions: &[u32; ACTION_COUNTS], i: usize) -> u32
+    requires { ⌜ i < tallyCounts ⌝ }
+{
+    if i < STEP_COUNTS {
+        return steps[i];
+    }
+    actions[i - STEP_COUNTS]
+}
+
+fn write_tally(steps: &[u32; STEP_COUNTS], actions: &[u32; ACTION_COUNTS]) -> bool {
+    let mut written = true;
+    let mut i = 0;
+    while i < TALLY_COUNTS {
+        let bytes = count_bytes(count_at(steps, actions, i));
+        written = io::write_all(STDOUT_FILENO, &bytes) & written;
+        i += 1;
+    }
+    written
+}
+
+// The same of a trace run.
+fn write_trace(batch: &[u8], parts: Parts, state: &mut [u8], events: &mut [u8]) -> bool
+    requires { ⌜ Placed (now batch) parts × (longestField ≤ length (now state)) × (longestField ≤ length (now events)) ⌝ }
+{
+    let of_state = parts.state - (parts.policy + 2);
+    let of_events = parts.events - (parts.state + 2);
+    let start = tally_start(parts.action);
+    let mut steps = [start; STEP_COUNTS];
+    let mut actions = [start; ACTION_COUNTS];
+    let bytes = trace_answer(batch, parts, state, events, &mut steps, &mut actions);
+    let report = io::write_all(STDOUT_FILENO, &bytes);
+    let saved = io::write_all(STDOUT_FILENO, &state[..of_state]);
+    let told = io::write_all(STDOUT_FILENO, &events[..of_events]);
+    let tallied = write_tally(&steps, &actions);
+    report & saved & told & tallied
+}
+
 // Writes the answer, and says whether there was one.
 fn answer(batch: &[u8], parts: Parts, state: &mut [u8], events: &mut [u8]) -> bool
     requires { ⌜ Placed (now batch) parts × (longestField ≤ length (now state)) × (longestField ≤ length (now events)) ⌝ }
@@ -81,6 +136,7 @@ fn answer(batch: &[u8], parts: Parts, state: &mut [u8], events: &mut [u8]) -> bo
         }
         1..=3 => write_call(batch, parts, state, events),
         4 => write_file(batch, parts, events),
+        5 => write_trace(batch, parts, state, events),
         _ => false,
     }
 }

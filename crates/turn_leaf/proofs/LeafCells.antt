@@ -1,7 +1,7 @@
 -- What the code leaves in a leaf's cell is where the leaf is.
-use Prim.Native.Nat.{ℕ, _<_}
+use Prim.Native.Nat.{ℕ, _+_, _<_}
 use native.Mathlib.Omega.{arith}
-use mathlib.Core.Path.{_≡_, refl, sym, ap, ap₂, _∙_}
+use mathlib.Core.Path.{_≡_, refl, sym, ap, ap₂, _∙_, subst}
 use mathlib.Core.Bool.{Bool, true, false}
 use mathlib.Core.List.{List}
 use lib.Dec.{eqb}
@@ -10,13 +10,14 @@ use lib.Seq.{getD-set-other}
 use Rattle.actions.specs.Sets.{Action, ActionSet}
 use Rattle.spec_policy.specs.Records.{mostNodes}
 use Rattle.spec_policy.specs.Steps.{Step}
-use Rattle.spec_policy.specs.Tree.{leaf}
+use Rattle.spec_policy.specs.Bytes.{Bytes}
+use Rattle.spec_policy.specs.Tree.{leaf, firstStep}
 use Rattle.spec_turns.specs.Status.{Status, statusOf, isRunning}
 use Rattle.spec_turns.specs.State.{State, leafState, leafOver}
 use Rattle.spec_turns.specs.Process.{lets}
 use Rattle.spec_turns.specs.Turn.{Phase, isAsked}
 use Rattle.turn_paths.specs.Run.{halts, goes}
-use Rattle.turn_paths.specs.Memory.{Cell, leafWith, held}
+use Rattle.turn_paths.specs.Memory.{Cell, leafWith, held, ranOf}
 use Rattle.turn_memory.specs.Words.{Only, Words, wordCount, offsetIn, counterIn, packed, memoryOf}
 use Rattle.turn_memory.specs.Phases.{pendingIn}
 use Rattle.turn_memory.proofs.CellLaws.{celled-packed, view-here, offset-in, counter-in}
@@ -25,7 +26,7 @@ use Rattle.turn_leaf.specs.declared.Last.the-variants.{Stay, Stops, Inse
 use Rattle.turn_leaf.specs.declared.Stop.{Stop}
 use Rattle.turn_leaf.specs.declared.Progress.{Progress}
 use Rattle.turn_leaf.specs.declared.Progress.the-variants.{Insert, Done}
-use Rattle.turn_leaf.specs.Leaf.{goesOn, onward, ends, lasts, Stopped, begins, Left, came, Waits, Ran}
+use Rattle.turn_leaf.specs.Leaf.{goesOn, onward, ends, lasts, Quietly, Stopped, begins, leftCounted, Left, came, Waits, Ran}
 use Rattle.turn_leaf.proofs.Quiet.{quietly-same, quietly-then}
 use Rattle.turn_leaf.proofs.LeafStarts.{begun-asked}
 
@@ -56,11 +57,12 @@ over-zeros s = go (isRunning s)
     go false = refl
 
 module _ (i : ℕ) (r : ActionSet) (k : ℕ) (code : List Step) (ph : Phase) (l : i < mostNodes) {ws ws′ : Words} where
-  pub left-held : {o o₀ c : ℕ} → isAsked r ph (held (leaf i r k code) (memoryOf ws)) ≡ true → o₀ ≡ offsetIn (getD ws i 0) → c ≡ counterIn (getD ws i 0)
-      → o ≡ begins ph code o₀ → Holds i 1 o 0 c ws ws′ → Left i r k code ph ws ws′
+  pub left-held : {on : Bool} {policy : Bytes} {base : ℕ} {cs cs′ : List ℕ} {o o₀ c : ℕ} → isAsked r ph (held (leaf i r k code) (memoryOf ws)) ≡ true → o₀ ≡ offsetIn (getD ws i 0) → c ≡ counterIn (getD ws i 0)
+      → o ≡ begins ph code o₀ → Holds i 1 o 0 c ws ws′ → base ≡ firstStep policy i → cs′ ≡ leftCounted on ph cs (base + o₀) → Left i r k code ph on policy cs cs′ ws ws′
   unfolding onward statusOf
-  left-held {o} {o₀} {c} asks eo ec e w = record {
-    begun = quietly-then (begun-asked i r k code (memoryOf ws) ph asks)
+  left-held {on} {policy} {base} {cs} {cs′} {o} {o₀} {c} asks eo ec e w eb et = record {
+    begun = quietly-then (subst (λ (ds : List ℕ). Quietly on policy cs ds (ranOf (leaf i r k code) ph (held (leaf i r k code) (memoryOf ws))) (goesOn i code (pendingIn ph) (begins ph code (memoryOf ws i .offset)) (memoryOf ws i .counter)))
+        (ap₂ (λ (n q : ℕ). leftCounted on ph cs (n + q)) (sym eb) (sym (eo ∙ offset-in ws i l)) ∙ sym et) (begun-asked i r k code (memoryOf ws) ph asks))
         (quietly-same (ap₂ (λ (o c : ℕ). goesOn i code (pendingIn ph) o c) (sym (e ∙ ap (begins ph code) (eo ∙ offset-in ws i l))) (sym (ec ∙ counter-in ws i l)) ∙ ap (onward i code ph) (sym (w .here))));
     runs = ap (λ (y : Cell). y .status) (w .here);
     only = w .only;
@@ -72,31 +74,31 @@ module _ (i : ℕ) (r : ActionSet) (k : ℕ) (code : List Step) (ph : Phase) (l 
   ends-held u w = ap (λ (y : Cell). halts (record { state = leafWith (y .status) (y .asked) (y .offset) (y .counter); suppressed = u })) (sym (w .here))
 
   -- the leaf went on from its cell as far as x says
-  module _ {a o c : ℕ} {x : Stop} (ea : a ≡ pendingIn ph) (eo : o ≡ offsetIn (getD ws i 0)) (ec : c ≡ counterIn (getD ws i 0)) (st : Stopped code a o c x) where
+  module _ {on : Bool} {policy : Bytes} {base : ℕ} {cs cs′ : List ℕ} (eb : base ≡ firstStep policy i) {a o c : ℕ} {x : Stop} (ea : a ≡ pendingIn ph) (eo : o ≡ offsetIn (getD ws i 0)) (ec : c ≡ counterIn (getD ws i 0)) (st : Stopped on policy base cs cs′ code a o c x) where
     ran-as : {l : Last} {p : Progress} → x .last ≡ l → lasts i code (pendingIn ph) (x .offset) (x .counter) l ≡ came i r k code ph ws′ p
-        → Waits i r k code ph ws′ p → Only i ws ws′ → Ran i r k code ph ws ws′ p
+        → Waits i r k code ph ws′ p → Only i ws ws′ → Ran i r k code ph on policy cs cs′ ws ws′ p
     unfolding onward
     ran-as e f h only = record {
       gives =
           quietly-then (quietly-same (sym (ap₂ (λ (o c : ℕ). goesOn i code (pendingIn ph) o c) (eo ∙ offset-in ws i l) (ec ∙ counter-in ws i l)) ∙ sym (ap (λ (b : Action). goesOn i code b o c) ea)))
-          (quietly-then (st .stops i)
+          (quietly-then (st .stops i eb)
           (quietly-same (ap₂ (λ (b : Action) (z : Last). lasts i code b (x .offset) (x .counter) z) ea e ∙ f)));
       waits = h;
       only = only;
     }
 
-    pub ran-stays : x .last ≡ Stay → Holds i 1 (x .offset) 0 (x .counter) ws ws′ → Ran i r k code ph ws ws′ (Done false)
+    pub ran-stays : x .last ≡ Stay → Holds i 1 (x .offset) 0 (x .counter) ws ws′ → Ran i r k code ph on policy cs cs′ ws ws′ (Done false)
     unfolding lasts leafWith statusOf isRunning Waits
     ran-stays e w = ran-as e (ends-held false w) tt (w .only)
 
-    pub ran-stops : {t : ℕ} {u : Bool} → x .last ≡ Stops t u → Holds i 1 t 1 (x .counter) ws ws′ → Ran i r k code ph ws ws′ (Done u)
+    pub ran-stops : {t : ℕ} {u : Bool} → x .last ≡ Stops t u → Holds i 1 t 1 (x .counter) ws ws′ → Ran i r k code ph on policy cs cs′ ws ws′ (Done u)
     unfolding lasts leafWith statusOf isRunning Waits
     ran-stops {u = u} e w = ran-as e (ends-held u w) tt (w .only)
 
-    pub ran-inserts : {b t : ℕ} → x .last ≡ Inserts b t → Holds i 1 t 0 (x .counter) ws ws′ → Ran i r k code ph ws ws′ (Insert b)
+    pub ran-inserts : {b t : ℕ} → x .last ≡ Inserts b t → Holds i 1 t 0 (x .counter) ws ws′ → Ran i r k code ph on policy cs cs′ ws ws′ (Insert b)
     unfolding lasts came onward statusOf Waits
     ran-inserts {b} e w = ran-as e (ap (λ (y : Cell). goes (lets b) (onward i code ph y)) (sym (w .here))) (ap (λ (y : Cell). y .status) (w .here)) (w .only)
 
-    pub ran-over : {s : ℕ} → x .last ≡ Over s → Holds i s 0 0 0 ws ws′ → Ran i r k code ph ws ws′ (Done false)
+    pub ran-over : {s : ℕ} → x .last ≡ Over s → Holds i s 0 0 0 ws ws′ → Ran i r k code ph on policy cs cs′ ws ws′ (Done false)
     unfolding lasts Waits
     ran-over {s} e w = ran-as e (ap (λ (z : State). ends z false) (over-zeros (statusOf s)) ∙ ends-held false w) tt (w .only)

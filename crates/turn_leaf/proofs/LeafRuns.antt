@@ -1,5 +1,5 @@
 -- A leaf that goes on by itself, step after step: what its run is after some of them, and that it stops.
-use Prim.Native.Nat.{ℕ, zero, suc, _-_, _≤_, _<_}
+use Prim.Native.Nat.{ℕ, zero, suc, _+_, _-_, _≤_, _<_}
 use native.Mathlib.Omega.{arith}
 use native.Mathlib.Nat.{le-of-suc-le-suc, not-suc-le-zero}
 use mathlib.Core.Path.{_≡_, refl, sym, ap, _∙_, subst}
@@ -12,18 +12,20 @@ use Rattle.actions.specs.Sets.{Action}
 use Rattle.actions.proofs.Tests.{yes-of, of-yes}
 use Rattle.spec_policy.specs.Bytes.{Bytes}
 use Rattle.spec_policy.specs.Steps.{Step, halt, targets, isNext}
+use Rattle.spec_policy.specs.Tree.{firstStep}
 use Rattle.spec_check.specs.Lawful.{Ahead, AllAhead, Inside, Forward}
 use Rattle.spec_turns.specs.Status.{statusOf}
 use Rattle.spec_turns.specs.Turn as turn
 use Rattle.laws_turns.proofs.Fuel.{goes-step}
+use Rattle.spec_trace.specs.Tallies.{stepIf}
 use Rattle.turn_paths.specs.Run.{flat}
 use Rattle.turn_leaf.specs.declared.Move.{Move}
-use Rattle.turn_leaf.specs.declared.Move.the-variants.{On, Ends}
+use Rattle.turn_leaf.specs.declared.Move.the-variants.{On, Ends, Stays}
 use Rattle.turn_leaf.specs.declared.Last.{Last}
-use Rattle.turn_leaf.specs.declared.Last.the-variants.{Over}
+use Rattle.turn_leaf.specs.declared.Last.the-variants.{Stay, Over}
 use Rattle.file_records.specs.Code.{codeAt}
 use Rattle.file_records.proofs.CodeLaws.{code-length}
-use Rattle.turn_leaf.specs.Leaf.{Quietly, goesOn, ends, lasts, follows, target, left, Taken, Passing}
+use Rattle.turn_leaf.specs.Leaf.{Quietly, goesOn, ends, lasts, follows, moveCounted, target, left, Taken, Passing}
 use Rattle.turn_leaf.proofs.Quiet.{quietly-same, quietly-ran, quietly-then}
 
 -- ---- the steps of a leaf
@@ -75,23 +77,26 @@ far-less code o t h e = ⊎-elim
 
 -- ---- the run so far
 
-pub record Going (code : List Step) (a : Action) (o₀ c₀ o c : ℕ) : Type 0 where
-  pub whole : (i : ℕ) → Quietly (goesOn i code a o₀ c₀) (goesOn i code a o c)
+-- from offset o₀ with counter c₀, of a leaf whose first step has the number `base`, to offset o with counter c
+pub record Going (on : Bool) (policy : Bytes) (base : ℕ) (cs₀ cs : List ℕ) (code : List Step) (a : Action) (o₀ c₀ o c : ℕ) : Type 0 where
+  pub whole : (i : ℕ) → base ≡ firstStep policy i → Quietly on policy cs₀ cs (goesOn i code a o₀ c₀) (goesOn i code a o c)
   pub in-leaf : o < length code
   pub less : c ≤ c₀
 
-pub going-first : (code : List Step) (a : Action) (o c : ℕ) → o < length code → Going code a o c o c
-going-first code a o c h = record { whole = λ i. quietly-same refl; in-leaf = h; less = omega arith }
+pub going-first : {on : Bool} {policy : Bytes} {base : ℕ} {cs : List ℕ} (code : List Step) (a : Action) (o c : ℕ) → o < length code → Going on policy base cs cs code a o c o c
+going-first code a o c h = record { whole = λ i ei. quietly-same refl; in-leaf = h; less = omega arith }
 
-module _ {code : List Step} (pass : Passing code) {a : Action} {o₀ c₀ o c : ℕ} (g : Going code a o₀ c₀ o c)
+module _ {code : List Step} (pass : Passing code) {on : Bool} {policy : Bytes} {base : ℕ} {cs₀ cs : List ℕ} {a : Action} {o₀ c₀ o c : ℕ} (g : Going on policy base cs₀ cs code a o₀ c₀ o c)
     {s : Step} (is : s ≡ getD code o halt) where
-  at-step : {x : Move} → Taken s a c x → (i : ℕ) → Quietly (goesOn i code a o₀ c₀) (follows i code a o c x)
+  at-step : {x : Move} {cs′ : List ℕ} → Taken s a c x → cs′ ≡ moveCounted on x cs (base + o) → (i : ℕ) → base ≡ firstStep policy i
+      → Quietly on policy cs₀ cs′ (goesOn i code a o₀ c₀) (follows i code a o c x)
   unfolding goesOn
-  at-step t i =
-      quietly-then (g .whole i)
+  at-step {x} {cs′} t e i ei =
+      quietly-then (g .whole i ei)
       (quietly-then
       (quietly-same (ap flat (goes-step i a (pass .law) o c ∙ ap (λ (k : Step). turn.stepping i a (turn.goes i code a (suc (length code))) o c k) (sym is))))
-      (t .takes i o code))
+      (subst (λ (ds : List ℕ). Quietly on policy cs ds (flat (turn.stepping i a (turn.goes i code a (suc (length code))) o c s)) (follows i code a o c x))
+      (ap (λ (n : ℕ). moveCounted on x cs (n + o)) (sym ei) ∙ sym e) (t .takes on policy cs i o code)))
 
   module _ {t n : ℕ} (x : Taken s a c (On t n)) where
     no-next : isNext (getD code o halt) ≡ false
@@ -109,22 +114,29 @@ module _ {code : List Step} (pass : Passing code) {a : Action} {o₀ c₀ o c : 
     unfolding target AllAhead Forward
     going-less = far-less code o t (g .in-leaf) no-next (x .ahead code o (subst (λ (k : Step). AllAhead code o (targets k)) (sym is) (pass .law .forward o)) .0)
 
-    pub going-on : Going code a o₀ c₀ t n
-    unfolding target Inside left follows
-    going-on = record {
-      whole = λ i. at-step x i;
+    pub going-on : {cs′ : List ℕ} → cs′ ≡ stepIf on cs (base + o) → Going on policy base cs₀ cs′ code a o₀ c₀ t n
+    unfolding target Inside left follows moveCounted
+    going-on e = record {
+      whole = λ i ei. at-step x e i ei;
       in-leaf = x .inside (length code) (subst (λ (k : Step). Inside (length code) (targets k)) (sym is) (pass .law .inside o)) .0;
       less = let l = x .less in let m = g .less in omega arith;
     }
 
-  pub going-ends : {y : Last} → Taken s a c (Ends y) → (i : ℕ) → Quietly (goesOn i code a o₀ c₀) (lasts i code a o c y)
-  unfolding follows
-  going-ends x i = at-step x i
+  pub going-ends : {y : Last} {cs′ : List ℕ} → Taken s a c (Ends y) → cs′ ≡ stepIf on cs (base + o) → (i : ℕ) → base ≡ firstStep policy i
+      → Quietly on policy cs₀ cs′ (goesOn i code a o₀ c₀) (lasts i code a o c y)
+  unfolding follows moveCounted
+  going-ends x e i ei = at-step x e i ei
+
+  pub going-stays : Taken s a c Stays → (i : ℕ) → base ≡ firstStep policy i → Quietly on policy cs₀ cs (goesOn i code a o₀ c₀) (lasts i code a o c Stay)
+  unfolding follows moveCounted
+  going-stays x i ei = at-step x refl i ei
 
 -- past its last step a leaf halts
-pub halts-past : {code : List Step} → Passing code → (a : Action) (o c : ℕ) → length code ≤ o → (i : ℕ) → Quietly (goesOn i code a o c) (lasts i code a o c (Over 5))
+pub halts-past : {code : List Step} → Passing code → {on : Bool} {policy : Bytes} {base : ℕ} {cs cs′ : List ℕ} (a : Action) (o c : ℕ) → length code ≤ o → cs′ ≡ stepIf on cs (base + o)
+    → (i : ℕ) → base ≡ firstStep policy i → Quietly on policy cs cs′ (goesOn i code a o c) (lasts i code a o c (Over 5))
 unfolding goesOn turn.stepping turn.quiet flat lasts ends statusOf
-halts-past {code} pass a o c h i =
+halts-past {code} pass {on} {policy} {base} {cs} {cs′} a o c h e i ei =
     quietly-then
     (quietly-same (ap flat (goes-step i a (pass .law) o c ∙ ap (λ (k : Step). turn.stepping i a (turn.goes i code a (suc (length code))) o c k) (past code o h))))
-    (quietly-ran i o _)
+    (subst (λ (ds : List ℕ). Quietly on policy cs ds (flat (turn.stepping i a (turn.goes i code a (suc (length code))) o c halt)) (lasts i code a o c (Over 5)))
+    (ap (λ (n : ℕ). stepIf on cs (n + o)) (sym ei) ∙ sym e) (quietly-ran i o _))

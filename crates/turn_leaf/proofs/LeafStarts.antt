@@ -11,16 +11,17 @@ use Rattle.actions.specs.Sets.{ActionSet}
 use Rattle.spec_policy.specs.Bytes.{Bytes, number}
 use Rattle.spec_policy.specs.Records.{stepRecordAt}
 use Rattle.spec_policy.specs.Steps.{Step, next, ok, sup, ins, acase, spend, end, halt, stepOf}
-use Rattle.spec_policy.specs.Tree.{leaf, numberOf, regulated}
+use Rattle.spec_policy.specs.Tree.{leaf, numberOf, regulated, firstStep}
 use Rattle.spec_turns.specs.Status.{Status}
 use Rattle.spec_turns.specs.State.{State, leafState, offset, counter}
 use Rattle.spec_turns.specs.Turn.{Phase, before, after, closing, takeOf, doneOf, leafWork, isAsked}
+use Rattle.spec_trace.specs.Tallies.{stepIf}
 use Rattle.file_records.proofs.Rows.{of-kind, by-kind}
 use Rattle.turn_paths.specs.Run.{flat}
 use Rattle.turn_paths.specs.Memory.{Mem, leafWith, held, ranOf}
 use Rattle.turn_paths.proofs.Begin.{asked-running, asked-works, works}
 use Rattle.turn_memory.specs.Phases.{phaseOf, pendingIn}
-use Rattle.turn_leaf.specs.Leaf.{Quietly, goesOn, leaving, begins}
+use Rattle.turn_leaf.specs.Leaf.{Quietly, goesOn, leaving, begins, leftCounted}
 use Rattle.turn_leaf.proofs.Quiet.{quietly-same, quietly-ran, quietly-then}
 
 -- ---- a phase, as its number tells
@@ -66,8 +67,9 @@ module _ (code : List Step) (o p : ℕ) where
 -- ---- the phase of a leaf that is asked
 
 module _ (i : ℕ) (r : ActionSet) (c : ℕ) (code : List Step) (m : Mem) where
-  works-on : (ph : Phase) (s : Status) (k : Bool) (o n : ℕ) → Quietly (flat (works (leaf i r c code) ph (leafState s k o n))) (goesOn i code (pendingIn ph) (begins ph code o) n)
-  unfolding works leafWork offset counter flat goesOn pendingIn begins
+  works-on : {on : Bool} {policy : Bytes} {cs : List ℕ} (ph : Phase) (s : Status) (k : Bool) (o n : ℕ)
+      → Quietly on policy cs (leftCounted on ph cs (firstStep policy i + o)) (flat (works (leaf i r c code) ph (leafState s k o n))) (goesOn i code (pendingIn ph) (begins ph code o) n)
+  unfolding works leafWork offset counter flat goesOn pendingIn begins leftCounted
   works-on (before a) s k o n = quietly-ran i o _
   works-on after s k o n = quietly-same refl
   works-on closing s k o n = quietly-ran i o _
@@ -76,8 +78,8 @@ module _ (i : ℕ) (r : ActionSet) (c : ℕ) (code : List Step) (m : Mem) where
   unfolding held leafWith numberOf
   asked-held ph asks = rw (asked-running r ph (leaf i r c code) m asks, leafWith)
 
-  pub begun-asked : (ph : Phase) → isAsked r ph (held (leaf i r c code) m) ≡ true
-      → Quietly (ranOf (leaf i r c code) ph (held (leaf i r c code) m)) (goesOn i code (pendingIn ph) (begins ph code (m i .offset)) (m i .counter))
+  pub begun-asked : {on : Bool} {policy : Bytes} {cs : List ℕ} (ph : Phase) → isAsked r ph (held (leaf i r c code) m) ≡ true
+      → Quietly on policy cs (leftCounted on ph cs (firstStep policy i + m i .offset)) (ranOf (leaf i r c code) ph (held (leaf i r c code) m)) (goesOn i code (pendingIn ph) (begins ph code (m i .offset)) (m i .counter))
   unfolding regulated
   begun-asked ph asks =
       quietly-then
@@ -116,3 +118,18 @@ module _ (file : Bytes) (at : ℕ) where
       by-kind (λ k s. (k ≡ 1 → ⊥) → 0 ≡ leaving b s) (stepRecordAt file at) (λ z. absurd (z refl)) (λ z. leaving-none b (ok _) refl refl)
       (λ z. leaving-none b (sup _) refl refl) (λ z. leaving-none b (ins _ _) refl refl) (λ z. leaving-none b (acase _ _ _) refl refl)
       (λ z. leaving-none b (spend _ _ _) refl refl) (λ z. leaving-none b end refl refl) (λ k z. leaving-halt b)
+
+-- ---- the counts
+
+module _ (on : Bool) (p : ℕ) (cs : List ℕ) (number : ℕ) where
+  pub left-after : p ≡ 64 → cs ≡ leftCounted on (phaseOf p) cs number
+  unfolding leftCounted
+  left-after e = sym (ap (λ (ph : Phase). leftCounted on ph cs number) (after-phase p e))
+
+  pub left-else : (p ≡ 64 → ⊥) → stepIf on cs number ≡ leftCounted on (phaseOf p) cs number
+  unfolding leftCounted
+  left-else ne = go (ltb 64 p) refl
+    where
+      go : (b : Bool) → ltb 64 p ≡ b → stepIf on cs number ≡ leftCounted on (phaseOf p) cs number
+      go true e = sym (ap (λ (ph : Phase). leftCounted on ph cs number) (closing-phase p (ltb-true 64 p e)))
+      go false e = let l = ltb-false 64 p e in sym (ap (λ (ph : Phase). leftCounted on ph cs number) (before-phase p (omega arith)))

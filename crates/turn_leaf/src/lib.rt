@@ -5,14 +5,14 @@ ghost use Prim.Native.Nat.{ℕ, _<_};
 ghost use lib.ListN.{length, getD};
 ghost use Rattle.spec_policy.specs.Records.{mostNodes};
 ghost use Rattle.spec_policy.specs.Steps.{halt};
-ghost use Rattle.spec_policy.specs.Tree.{leaf};
+ghost use Rattle.spec_policy.specs.Tree.{leaf, firstStep};
 ghost use Rattle.spec_turns.specs.Turn.{affords, isAsked};
 ghost use Rattle.file_records.specs.Code.{codeFrom, StepsIn};
 ghost use Rattle.file_records.specs.Kinds.{stepMeant, insOf, acaseOf, spendOf};
 ghost use Rattle.turn_paths.specs.Memory.{held};
 ghost use Rattle.turn_memory.specs.Words.{wordCount, memoryOf};
 ghost use Rattle.turn_memory.specs.Phases.{phaseOf, pendingIn};
-ghost use Rattle.turn_leaf.specs.Leaf.{Taken, Passing, Stopped, leaving, begins, Left, Ran};
+ghost use Rattle.turn_leaf.specs.Leaf.{Taken, Passing, Stopped, leaving, begins, leftCounted, Left, Ran};
 use file_records::NEXT;
 use file_records::Operand;
 use file_records::Step;
@@ -30,6 +30,8 @@ use turn_memory::put;
 use turn_state::ENDED;
 use turn_state::HALTED;
 use turn_state::RUNNING;
+use turn_tally::STEP_COUNTS;
+use turn_tally::count_step;
 
 // What a leaf's run came to: an insert, after which it goes on; or its phase's end, and whether it suppressed.
 pub enum Progress {
@@ -46,10 +48,11 @@ pub enum Last {
     Over(u8),
 }
 
-// Where one step leads: on at the target with what is left of the counter, or to the run's end.
+// Where one step leads: on at the target with what is left of the counter; or to the run's end; or, at a next, nowhere: a next runs when it is left.
 pub enum Move {
     On(u8, u64),
     Ends(Last),
+    Stays,
 }
 
 // How far a leaf goes by itself: what ended the run, and the offset and the counter there.
@@ -113,7 +116,7 @@ fn one_step(step: Step, action: u8, counter: u64) -> Move
     ensures { λ r. ⌜ Taken (stepMeant step) action counter r ⌝ }
 {
     match step {
-        Step::Next(_, _) => Move::Ends(Last::Stay),
+        Step::Next(_, _) => Move::Stays,
         Step::Ok(t) => Move::Ends(Last::Stops(t, false)),
         Step::Sup(t) => Move::Ends(Last::Stops(t, true)),
         Step::Ins(x, t) => inserts(x, t, counter),
@@ -125,11 +128,22 @@ fn one_step(step: Step, action: u8, counter: u64) -> Move
 }
 
 // The leaf goes on, over steps that no one sees, up to what ends its run. Past its last step it halts.
-fn go_on(policy: &[u8], first: usize, count: usize, action: u8, offset: u8, counter: u64) -> Stop
+fn go_on(
+    policy: &[u8],
+    first: usize,
+    count: usize,
+    action: u8,
+    offset: u8,
+    counter: u64,
+    counts: &mut [u32; STEP_COUNTS],
+    counting: bool,
+) -> Stop
     requires { ⌜ StepsIn (now policy) first count × Passing (codeFrom (now policy) first count) ⌝ }
-    ensures { λ r. ⌜ Stopped (codeFrom (now (policy .entry)) first count) action offset counter r ⌝ }
+    ensures { λ r. ⌜ Stopped counting (now (policy .entry)) first (now (counts .entry)) (now (counts .exit))
+        (codeFrom (now (policy .entry)) first count) action offset counter r ⌝ }
 {
     if offset as usize >= count {
+        count_step(counts, counting, first + offset as usize);
         return Stop {
             last: Last::Over(HALTED),
             offset,
@@ -139,16 +153,26 @@ fn go_on(policy: &[u8], first: usize, count: usize, action: u8, offset: u8, coun
     let mut o = offset;
     let mut n = counter;
     loop {
-        let step = view_step(policy, first + o as usize);
+        let number = first + o as usize;
+        let step = view_step(policy, number);
         let m = one_step(step, action, n);
         match m {
             Move::On(t, k) => {
+                count_step(counts, counting, number);
                 o = t;
                 n = k;
             }
             Move::Ends(x) => {
+                count_step(counts, counting, number);
                 return Stop {
                     last: x,
+                    offset: o,
+                    counter: n,
+                };
+            }
+            Move::Stays => {
+                return Stop {
+                    last: Last::Stay,
                     offset: o,
                     counter: n,
                 };
@@ -189,6 +213,16 @@ fn begin(policy: &[u8], first: usize, count: usize, offset: u8, phase: u8) -> u8
     leaving(policy, first, count, offset, phase > AFTER)
 }
 
+// A next that is left has run: this one, where the phase leaves one.
+fn count_left(counts: &mut [u32; STEP_COUNTS], counting: bool, phase: u8, number: usize)
+    ensures { λ _. ⌜ now (counts .exit) ≡ leftCounted counting (phaseOf phase) (now (counts .entry)) number ⌝ }
+{
+    if phase == AFTER {
+        return;
+    }
+    count_step(counts, counting, number);
+}
+
 // "Before: go from take .. After: go on": a next is left as the phase begins, but not after the verdict. Writes where the leaf is.
 pub fn leave(
     policy: &[u8],
@@ -197,14 +231,19 @@ pub fn leave(
     first: usize,
     count: usize,
     phase: u8,
+    counts: &mut [u32; STEP_COUNTS],
+    counting: bool,
 )
     requires { ⌜ (length (now mem) ≡ wordCount) × (node < mostNodes) ⌝ }
-    requires { ⌜ StepsIn (now policy) first count ⌝ }
+    requires { ⌜ StepsIn (now policy) first count × (first ≡ firstStep (now policy) node) ⌝ }
     ensures { λ _. let code = codeFrom (now (policy .entry)) first count in
         ⌜ ((r start : ℕ) → isAsked r (phaseOf phase) (held (leaf node r start code) (memoryOf (now (mem .entry)))) ≡ true
-        → Left node r start code (phaseOf phase) (now (mem .entry)) (now (mem .exit))) ⌝ }
+        → Left node r start code (phaseOf phase) counting (now (policy .entry))
+        (now (counts .entry)) (now (counts .exit)) (now (mem .entry)) (now (mem .exit))) ⌝ }
 {
-    let to = begin(policy, first, count, offset_at(mem, node), phase);
+    let offset = offset_at(mem, node);
+    count_left(counts, counting, phase, first + offset as usize);
+    let to = begin(policy, first, count, offset, phase);
     let counter = counter_at(mem, node);
     put(mem, node, RUNNING, to, UNMARKED, counter);
 }
@@ -228,15 +267,27 @@ pub fn run(
     first: usize,
     count: usize,
     phase: u8,
+    counts: &mut [u32; STEP_COUNTS],
+    counting: bool,
 ) -> Progress
     requires { ⌜ (length (now mem) ≡ wordCount) × (node < mostNodes) ⌝ }
-    requires { ⌜ StepsIn (now policy) first count × Passing (codeFrom (now policy) first count) ⌝ }
+    requires { ⌜ (StepsIn (now policy) first count × (first ≡ firstStep (now policy) node)) × Passing (codeFrom (now policy) first count) ⌝ }
     ensures { λ x. let code = codeFrom (now (policy .entry)) first count in
-        ⌜ ((r start : ℕ) → Ran node r start code (phaseOf phase) (now (mem .entry)) (now (mem .exit)) x) ⌝ }
+        ⌜ ((r start : ℕ) → Ran node r start code (phaseOf phase) counting (now (policy .entry))
+        (now (counts .entry)) (now (counts .exit)) (now (mem .entry)) (now (mem .exit)) x) ⌝ }
 {
     let offset = offset_at(mem, node);
     let counter = counter_at(mem, node);
-    let x = go_on(policy, first, count, pending(phase), offset, counter);
+    let x = go_on(
+        policy,
+        first,
+        count,
+        pending(phase),
+        offset,
+        counter,
+        counts,
+        counting,
+    );
     let last = x.last;
     match last {
         Last::Stay => {

@@ -19,6 +19,7 @@ use Rattle.spec_check.proofs.Numbers.{number-at}
 use Rattle.spec_turns.specs.Status.{running, isRunning, joined}
 use Rattle.spec_turns.specs.Process.{Item, lets}
 use Rattle.spec_turns.specs.Turn.{Phase, before, after, isAsked}
+use Rattle.spec_trace.proofs.TallyLaws.{steps-lets}
 use Rattle.turn_paths.specs.Memory.{Mem}
 use Rattle.turn_paths.specs.Choices.{emits}
 use Rattle.turn_paths.specs.Paths.{Feeder, Ended, done, stopped, Clear, isStop, GoesOn, Turned, Rose}
@@ -56,21 +57,22 @@ feeds-on {policy} {ws} {ws′} {n} {k} kp f = record {
 
 -- ---- a node's part once an insert is through above it
 
-module _ {policy : Bytes} {ws : Words} {i : ℕ} (h : Stands policy ws i) (k : Sequential policy i) {y : ℕ} (m : ℕ) {ws₁ : Words} (ey : y ≡ rightAt policy i) (t : TurnsAt policy y after ws ws₁ m) where
-  pub settles-stopped : 2 ≤ m → Settles policy i ws ws₁ (ended m)
+module _ {policy : Bytes} {ws : Words} {i : ℕ} (h : Stands policy ws i) (k : Sequential policy i) {y : ℕ} (m : ℕ) {ws₁ : Words} (ey : y ≡ rightAt policy i) {counting : Bool} {cs cs₁ : List ℕ} (t : TurnsAt counting policy cs cs₁ y after ws ws₁ m) where
+  pub settles-stopped : 2 ≤ m → Settles counting policy cs cs₁ i ws ws₁ (ended m)
   settles-stopped g =
       let t₁ = at-right h k m ey keeps-none (stop-of m g) t in
-      subst (Settles policy i ws ws₁) (sym (stop-of m g)) (record {
+      subst (Settles counting policy cs cs₁ i ws ws₁) (sym (stop-of m g)) (record {
         items = t₁ .items;
         settles = λ cl p q. after-stopped cl p q (t₁ .turned);
         told = t₁ .told;
         keeps = t₁ .keeps;
+        steps = t₁ .steps;
       })
 
   by-number : {v : Bool} → isRunning (waitingGives policy i ws₁) ≡ v → isRunning (joined (joinAt policy i) running (memoryOf ws₁ (numberOf (treeAt policy (rightAt policy i))) .status)) ≡ v
   by-number e = ap (λ (n : ℕ). isRunning (joined (joinAt policy i) running (memoryOf ws₁ n .status))) (number-at policy (rightAt policy i)) ∙ e
 
-  pub settles-read : m < 2 → (q : ℕ) {ws₂ : Words} → Reread policy i ws₁ ws₂ q → Settles policy i ws ws₂ (ended q)
+  pub settles-read : m < 2 → (q : ℕ) {ws₂ : Words} → Reread policy i ws₁ ws₂ q → Settles counting policy cs cs₁ i ws ws₂ (ended q)
   settles-read g q {ws₂} r =
       let t₁ = at-right h k m ey keeps-none (done-of m g) t in
       let mv = moved-own (low h) (turns-moved t₁) (r .only) in
@@ -79,6 +81,7 @@ module _ {policy : Bytes} {ws : Words} {i : ℕ} (h : Stands policy ws i) (k : S
         settles = λ {b} {fs} {m₀} {m₁} {xs} {ys} {ns} cl p z. on (ended q) (r .reads) cl p z (t₁ .turned);
         told = mv .told;
         keeps = mv .keeps;
+        steps = mv .steps;
       }
     where
       on : (x : Ended) → Rereads policy i ws₁ ws₂ x → {b : Action} {fs : List Feeder} {m₀ m₁ : Mem} {xs ys zs : List Item} {ns : List ℕ} → Clear fs
@@ -114,9 +117,9 @@ module _ (ws : Words) (b : Action) where
     tables = λ k l. pushed-others k (λ e. absurd (omega (arith, e, l))) (λ z. absurd (omega (arith, z, l)));
   }
 
-  pushed-moved : b < 256 → length ws ≡ wordCount → Moved ws (pushed ws b) (lets b ∷ [])
+  pushed-moved : {counting : Bool} {policy : Bytes} {cs : List ℕ} → b < 256 → length ws ≡ wordCount → Moved counting policy cs cs ws (pushed ws b) (lets b ∷ [])
   unfolding letsIn
-  pushed-moved hb size = record { told = told-say ws b hb size; keeps = pushed-keeps }
+  pushed-moved {counting} {policy} {cs} hb size = record { told = told-say ws b hb size; steps = sym (steps-lets counting policy b cs); keeps = pushed-keeps }
 
 -- ---- the way up
 
@@ -136,7 +139,7 @@ or-false true = refl
 or-false false = refl
 
 -- From node n an insert has come to node `at`, and the nodes of the set have let it on.
-pub record Climbed (policy : Bytes) (b : Action) (ws₀ ws : Words) (n at fed : ℕ) : Type 0 where
+pub record Climbed (counting : Bool) (policy : Bytes) (cs₀ cs : List ℕ) (b : Action) (ws₀ ws : Words) (n at fed : ℕ) : Type 0 where
   pub items : List Item
   pub owed : List ℕ
   pub rising : Rising b (pathAt policy ws₀ n) (memoryOf ws₀) (pathAt policy ws₀ at) (memoryOf ws) items owed
@@ -144,9 +147,9 @@ pub record Climbed (policy : Bytes) (b : Action) (ws₀ ws : Words) (n at fed : 
   pub members : (q : ℕ) → has fed q ≡ among q owed
   pub below : at ≤ n
   pub stands : Stands policy ws₀ at
-  pub moved : Moved ws₀ ws items
+  pub moved : Moved counting policy cs₀ cs ws₀ ws items
 
-pub climbed-here : {policy : Bytes} {ws : Words} {n : ℕ} (b : Action) → Stands policy ws n → Climbed policy b ws ws n n EMPTY
+pub climbed-here : {policy : Bytes} {ws : Words} {n : ℕ} {counting : Bool} {cs : List ℕ} (b : Action) → Stands policy ws n → Climbed counting policy cs cs b ws ws n n EMPTY
 unfolding among
 climbed-here b h = record {
   items = [];
@@ -163,7 +166,7 @@ ascends-less : {n p q : ℕ} {ns : List ℕ} → q ≤ p → Ascends n p ns → 
 ascends-less l none = none
 ascends-less {q = q} l (more {q = r} a b c) = more {p = q} {q = r} (omega (arith, l, a)) b c
 
-module _ {policy : Bytes} {b : Action} {ws₀ ws : Words} {n at fed : ℕ} (h : Stands policy ws₀ n) (r : Climbed policy b ws₀ ws n at fed) where
+module _ {policy : Bytes} {b : Action} {ws₀ ws : Words} {n at fed : ℕ} (h : Stands policy ws₀ n) {counting : Bool} {cs₀ cs : List ℕ} (r : Climbed counting policy cs₀ cs b ws₀ ws n at fed) where
   clear : Clear (pathAt policy ws₀ n)
   clear = standing h .clear
 
@@ -174,7 +177,7 @@ module _ {policy : Bytes} {b : Action} {ws₀ ws : Words} {n at fed : ℕ} (h : 
   same-path i = path-same policy ws₀ ws (r .moved .keeps .tables) i
 
   -- no node further up takes it: it is let out
-  pub lets-it-out : Skips b (memoryOf ws) (pathAt policy ws at) [] → b < 256 → Owing (pathAt policy ws₀ n) b ws₀ (pushed ws b) n at fed
+  pub lets-it-out : Skips b (memoryOf ws) (pathAt policy ws at) [] → b < 256 → Owing counting policy cs₀ cs (pathAt policy ws₀ n) b ws₀ (pushed ws b) n at fed
   lets-it-out s hb =
       let mv = moved-then (r .moved) (pushed-moved ws b hb (r .moved .keeps .sized ∙ h .sized)) in
       record {
@@ -186,6 +189,7 @@ module _ {policy : Bytes} {b : Action} {ws₀ ws : Words} {n at fed : ℕ} (h : 
         members = λ q l. r .members q;
         told = mv .told;
         keeps = mv .keeps;
+        steps = mv .steps;
       }
 
   -- node p takes it
@@ -211,15 +215,15 @@ module _ {policy : Bytes} {b : Action} {ws₀ ws : Words} {n at fed : ℕ} (h : 
     unfolding isAsked
     taker-asked lb {y} ey = subst (λ (x : ℕ). Asked policy ws x (phaseOf b)) (sym ey) (subst (Asked policy ws (rightAt policy p)) (sym (phase-before b lb)) a)
 
-    module _ {y : ℕ} (m : ℕ) {ws₁ : Words} (lb : b < 64) (ey : y ≡ rightAt policy p) (t : TurnsAt policy y (phaseOf b) ws ws₁ m) where
-      its-turn : {e : Ended} → ended m ≡ e → Turns (pathAt policy ws₀ p) (treeAt policy (rightAt policy p)) (before b) ws ws₁ e
+    module _ {y : ℕ} (m : ℕ) {ws₁ : Words} (lb : b < 64) (ey : y ≡ rightAt policy p) {cs₁ : List ℕ} (t : TurnsAt counting policy cs cs₁ y (phaseOf b) ws ws₁ m) where
+      its-turn : {e : Ended} → ended m ≡ e → Turns counting policy cs cs₁ (pathAt policy ws₀ p) (treeAt policy (rightAt policy p)) (before b) ws ws₁ e
       its-turn {e} q =
-          subst (λ (ph : Phase). Turns (pathAt policy ws₀ p) (treeAt policy (rightAt policy p)) ph ws ws₁ e) (phase-before b lb) (at-right (at-taker .stands) taker-pair m ey (r .moved .keeps) q t)
+          subst (λ (ph : Phase). Turns counting policy cs cs₁ (pathAt policy ws₀ p) (treeAt policy (rightAt policy p)) ph ws ws₁ e) (phase-before b lb) (at-right (at-taker .stands) taker-pair m ey (r .moved .keeps) q t)
 
-      pub taken-stopped : 2 ≤ m → Emits (pathAt policy ws₀ n) b ws₀ ws₁ (ended m)
+      pub taken-stopped : 2 ≤ m → Emits counting policy cs₀ cs₁ (pathAt policy ws₀ n) b ws₀ ws₁ (ended m)
       taken-stopped g =
           let u = its-turn (stop-of m g) in
-          subst (λ (e : Ended). Emits (pathAt policy ws₀ n) b ws₀ ws₁ e) (sym (stop-of m g)) (to-emits (given-stopped clear comes a (u .turned)) (moved-then (r .moved) (turns-moved u)))
+          subst (λ (e : Ended). Emits counting policy cs₀ cs₁ (pathAt policy ws₀ n) b ws₀ ws₁ e) (sym (stop-of m g)) (to-emits (given-stopped clear comes a (u .turned)) (moved-then (r .moved) (turns-moved u)))
 
       module _ (g : m < 2) where
         to-status : {v : Bool} → emits (joinAt policy p) (memoryOf ws₁ (rightAt policy p) .status) (eqb m 1) ≡ v → emits (joinAt policy p) (memoryOf ws₁ (numberOf (treeAt policy (rightAt policy p))) .status) (eqb m 1) ≡ v
@@ -238,7 +242,7 @@ module _ {policy : Bytes} {b : Action} {ws₀ ws : Words} {n at fed : ℕ} (h : 
             on a true c d x z = sym (or-true d)
             on a false c d x z = ap₂ (λ (u v : Bool). u && v) x z ∙ sym (or-false d)
 
-        pub stays-there : emits (joinAt policy p) (memoryOf ws₁ (rightAt policy p) .status) (eqb m 1) ≡ false → (fed′ : ℕ) → fed′ ≡ union fed (single p) → Owing (pathAt policy ws₀ n) b ws₀ ws₁ n p fed′
+        pub stays-there : emits (joinAt policy p) (memoryOf ws₁ (rightAt policy p) .status) (eqb m 1) ≡ false → (fed′ : ℕ) → fed′ ≡ union fed (single p) → Owing counting policy cs₀ cs₁ (pathAt policy ws₀ n) b ws₀ ws₁ n p fed′
         stays-there e fed′ ef =
             let u = its-turn (done-of m g) in
             let mv = moved-then (r .moved) (turns-moved u) in
@@ -250,9 +254,10 @@ module _ {policy : Bytes} {b : Action} {ws₀ ws : Words} {n at fed : ℕ} (h : 
               members = λ q l. members-on fed′ ef q;
               told = mv .told;
               keeps = mv .keeps;
+              steps = mv .steps;
             }
 
-        pub goes-further : emits (joinAt policy p) (memoryOf ws₁ (rightAt policy p) .status) (eqb m 1) ≡ true → (fed′ : ℕ) → fed′ ≡ union fed (single p) → Climbed policy b ws₀ ws₁ n p fed′
+        pub goes-further : emits (joinAt policy p) (memoryOf ws₁ (rightAt policy p) .status) (eqb m 1) ≡ true → (fed′ : ℕ) → fed′ ≡ union fed (single p) → Climbed counting policy cs₀ cs₁ b ws₀ ws₁ n p fed′
         goes-further e fed′ ef =
             let u = its-turn (done-of m g) in record {
               items = r .items ++ u .items;
@@ -268,9 +273,9 @@ module _ {policy : Bytes} {b : Action} {ws₀ ws : Words} {n at fed : ℕ} (h : 
 -- ---- and down again
 
 -- the next of those that owe, by number
-module _ {policy : Bytes} {ws₁ ws : Words} {n at fed : ℕ} {b : Action} {ws₀ : Words} (h : Stands policy ws₁ n) (kp : Keeps ws₁ ws) (o : Owing (pathAt policy ws₁ n) b ws₀ ws n at fed) where
+module _ {policy : Bytes} {ws₁ ws : Words} {n at fed : ℕ} {b : Action} {ws₀ : Words} (h : Stands policy ws₁ n) (kp : Keeps ws₁ ws) {counting : Bool} {cs₀ cs : List ℕ} (o : Owing counting policy cs₀ cs (pathAt policy ws₁ n) b ws₀ ws n at fed) where
   -- this node owes nothing
-  pub passes-by : has fed at ≡ false → Owing (pathAt policy ws₁ n) b ws₀ ws n (at + 1) fed
+  pub passes-by : has fed at ≡ false → Owing counting policy cs₀ cs (pathAt policy ws₁ n) b ws₀ ws n (at + 1) fed
   unfolding among
   passes-by e = record {
     items = o .items;
@@ -280,6 +285,7 @@ module _ {policy : Bytes} {ws₁ ws : Words} {n at fed : ℕ} {b : Action} {ws�
     members = λ q l. o .members q (omega (arith, l));
     told = o .told;
     keeps = o .keeps;
+    steps = o .steps;
   }
     where
       on : (ns : List ℕ) → Ascends n at ns → among at ns ≡ false → Ascends n (at + 1) ns
@@ -342,15 +348,15 @@ module _ {policy : Bytes} {ws₁ ws : Words} {n at fed : ℕ} {b : Action} {ws�
             at-node : (w : OnWay policy ws₁ n f gs) → at ≡ f .number → w .node ≡ at
             at-node w here = sym (here ∙ ap (λ (g : Feeder). g .number) (w .is))
 
-    module _ {ws₂ : Words} (q : ℕ) (s : Settles policy at ws ws₂ (ended q)) where
-      moved-on : {x : Ended} → (u : Settles policy at ws ws₂ x) → Moved ws₀ ws₂ (o .items ++ u .items)
-      moved-on u = moved-then (record { told = o .told; keeps = o .keeps }) (record { told = u .told; keeps = u .keeps })
+    module _ {ws₂ : Words} (q : ℕ) {cs₂ : List ℕ} (s : Settles counting policy cs cs₂ at ws ws₂ (ended q)) where
+      moved-on : {x : Ended} → (u : Settles counting policy cs cs₂ at ws ws₂ x) → Moved counting policy cs₀ cs₂ ws₀ ws₂ (o .items ++ u .items)
+      moved-on u = moved-then (record { told = o .told; keeps = o .keeps; steps = o .steps }) (record { told = u .told; keeps = u .keeps; steps = u .steps })
 
       -- it has done its part
-      pub settles-on : q < 2 → Owing (pathAt policy ws₁ n) b ws₀ ws₂ n (at + 1) fed
+      pub settles-on : q < 2 → Owing counting policy cs₀ cs₂ (pathAt policy ws₁ n) b ws₀ ws₂ n (at + 1) fed
       settles-on g =
           let f = firstly in
-          let u = subst (Settles policy at ws ws₂) (done-of q g) s in
+          let u = subst (Settles counting policy cs cs₂ at ws ws₂) (done-of q g) s in
           let mv = moved-on u in
           record {
             items = o .items ++ u .items;
@@ -360,14 +366,15 @@ module _ {policy : Bytes} {ws₁ ws : Words} {n at fed : ℕ} {b : Action} {ws�
             members = f .members;
             told = mv .told;
             keeps = mv .keeps;
+            steps = mv .steps;
           }
 
       -- or a node above was decided
-      pub settles-stop : 2 ≤ q → Emits (pathAt policy ws₁ n) b ws₀ ws₂ (ended q)
+      pub settles-stop : 2 ≤ q → Emits counting policy cs₀ cs₂ (pathAt policy ws₁ n) b ws₀ ws₂ (ended q)
       settles-stop g =
           let f = firstly in
-          let u = subst (Settles policy at ws ws₂) (stop-of q g) s in
-          subst (λ (x : Ended). Emits (pathAt policy ws₁ n) b ws₀ ws₂ x) (sym (stop-of q g))
+          let u = subst (Settles counting policy cs cs₂ at ws ws₂) (stop-of q g) s in
+          subst (λ (x : Ended). Emits counting policy cs₀ cs₂ (pathAt policy ws₁ n) b ws₀ ws₂ x) (sym (stop-of q g))
           (to-emits (subst (λ (l : List Item). Rose (pathAt policy ws₁ n) b (memoryOf ws₀) (memoryOf ws₂) (l ++ u .items) (stopped (q - 2))) (sym (f .is)) (u .settles (standing h .clear) (f .rising) (f .half))) (moved-on u))
 
 -- nothing is owed any more
@@ -375,9 +382,9 @@ rose-quiet : {fs : List Feeder} {b : Action} {m m′ : Mem} {xs : List Item} {u 
 unfolding GoesOn isStop
 rose-quiet r = record { runs = λ c ec p. r .runs c ec p; kept = λ i z s. r .kept i z refl }
 
-pub all-settled : {fs : List Feeder} {b : Action} {ws₀ ws : Words} {n at fed : ℕ} → n ≤ at → Owing fs b ws₀ ws n at fed → Emits fs b ws₀ ws (ended 0)
+pub all-settled : {fs : List Feeder} {b : Action} {ws₀ ws : Words} {n at fed : ℕ} {counting : Bool} {policy : Bytes} {cs₀ cs : List ℕ} → n ≤ at → Owing counting policy cs₀ cs fs b ws₀ ws n at fed → Emits counting policy cs₀ cs fs b ws₀ ws (ended 0)
 unfolding ended
-all-settled {fs} {b} {ws₀} {ws} {n} {at} l o = to-emits (on (o .items) (o .owed) (o .ascends) (o .owes)) (record { told = o .told; keeps = o .keeps })
+all-settled {fs} {b} {ws₀} {ws} {n} {at} l o = to-emits (on (o .items) (o .owed) (o .ascends) (o .owes)) (record { told = o .told; keeps = o .keeps; steps = o .steps })
   where
     on : (xs : List Item) (ns : List ℕ) → Ascends n at ns → Owes b fs (memoryOf ws₀) (memoryOf ws) xs ns → Rose fs b (memoryOf ws₀) (memoryOf ws) xs (done false)
     on xs [] none (nothing r) = rose-quiet r
@@ -386,16 +393,16 @@ all-settled {fs} {b} {ws₀} {ws} {n} {at} l o = to-emits (on (o .items) (o .owe
 -- ---- both
 
 -- the nodes that owe stand in the file
-pub fed-stand : {policy : Bytes} {b : Action} {ws₀ ws : Words} {n top fed : ℕ} → Stands policy ws₀ n → Owing (pathAt policy ws₀ n) b ws₀ ws n top fed
+pub fed-stand : {policy : Bytes} {b : Action} {ws₀ ws : Words} {n top fed : ℕ} {counting : Bool} {cs₀ cs : List ℕ} → Stands policy ws₀ n → Owing counting policy cs₀ cs (pathAt policy ws₀ n) b ws₀ ws n top fed
     → (k : ℕ) → top ≤ k → k < n → has fed k ≡ true → Feeds policy ws n k
 fed-stand {policy} {ws = ws} {n} h o k lk ln e = feeds-on (o .keeps) (owing-feeds h k (o .owes) (sym (o .members k lk) ∙ e))
 
 -- the way down, once the words have changed on the way up
-pub all-the-way : (policy : Bytes) {b : Action} {ws ws₁ ws₂ : Words} {n top fed : ℕ} {x : Ended} → Owing (pathAt policy ws n) b ws ws₁ n top fed
-    → (Owing (pathAt policy ws₁ n) b ws ws₁ n top fed → Emits (pathAt policy ws₁ n) b ws ws₂ x) → Emits (pathAt policy ws n) b ws ws₂ x
-all-the-way policy {b} {ws} {ws₁} {ws₂} {n} {top} {fed} {x} o f =
+pub all-the-way : {counting : Bool} {cs cs₁ cs₂ : List ℕ} (policy : Bytes) {b : Action} {ws ws₁ ws₂ : Words} {n top fed : ℕ} {x : Ended} → Owing counting policy cs cs₁ (pathAt policy ws n) b ws ws₁ n top fed
+    → (Owing counting policy cs cs₁ (pathAt policy ws₁ n) b ws ws₁ n top fed → Emits counting policy cs cs₂ (pathAt policy ws₁ n) b ws ws₂ x) → Emits counting policy cs cs₂ (pathAt policy ws n) b ws ws₂ x
+all-the-way {counting} {cs} {cs₁} {cs₂} policy {b} {ws} {ws₁} {ws₂} {n} {top} {fed} {x} o f =
     let e = path-same policy ws ws₁ (o .keeps .tables) n in
-    subst (λ (fs : List Feeder). Emits fs b ws ws₂ x) e (f (subst (λ (fs : List Feeder). Owing fs b ws ws₁ n top fed) (sym e) o))
+    subst (λ (fs : List Feeder). Emits counting policy cs cs₂ fs b ws ws₂ x) e (f (subst (λ (fs : List Feeder). Owing counting policy cs cs₁ fs b ws ws₁ n top fed) (sym e) o))
 
 -- which node takes it next, as the code tells it
 pub found-none : (policy : Bytes) (ws : Words) (i r : ℕ) (b : Action) → r ≡ 31 → Finds policy ws i b (ltb r 31) r → Skips b (memoryOf ws) (pathAt policy ws i) []

@@ -46,7 +46,7 @@ left-first [] p = omega arith
 left-first (x ∷ xs) p = omega (arith, left-first xs p)
 
 -- each insert takes one
-pub insert-takes : {policy : Bytes} {i : ℕ} {ph : Phase} {ws ws′ : Words} {b : Action} → WentOn policy i ph ws ws′ (Insert b)
+pub insert-takes : {policy : Bytes} {i : ℕ} {ph : Phase} {ws ws′ : Words} {b : Action} {counting : Bool} {cs cs′ : List ℕ} → WentOn counting policy cs cs′ i ph ws ws′ (Insert b)
     → itemsLeft (leafRun (treeAt policy i) ph (memoryOf ws′)) < itemsLeft (leafRun (treeAt policy i) ph (memoryOf ws))
 unfolding itemsLeft
 insert-takes {policy} {i} {ph} {ws} {ws′} {b} w =
@@ -55,11 +55,11 @@ insert-takes {policy} {i} {ph} {ws} {ws′} {b} w =
 -- ---- from one place to another
 
 -- from where p is left the leaf has come to where q is, with these items
-pub record Reaches (policy : Bytes) (i : ℕ) (ws ws′ : Words) (p q : Run) : Type 0 where
+pub record Reaches (counting : Bool) (policy : Bytes) (cs cs′ : List ℕ) (i : ℕ) (ws ws′ : Words) (p q : Run) : Type 0 where
   pub items : List Item
   pub runs : (c : Outside) → feeders c ≡ pathAt policy ws i → Shows (within c (memoryOf ws) p) items (within c (memoryOf ws′) q)
   pub kept : (n : ℕ) → holds (treeAt policy i) n ≡ false → rights (pathAt policy ws i) n ≡ false → memoryOf ws′ n ≡ memoryOf ws n
-  pub moved : Moved ws ws′ items
+  pub moved : Moved counting policy cs cs′ ws ws′ items
 
 module _ {policy : Bytes} {ws : Words} {i : ℕ} (h : Stands policy ws i) where
   own : holds (treeAt policy i) i ≡ true
@@ -77,10 +77,10 @@ module _ {policy : Bytes} {ws : Words} {i : ℕ} (h : Stands policy ws i) where
   pub own-kept : {ws₁ ws₂ : Words} → Only i ws₁ ws₂ → (n : ℕ) → holds (treeAt policy i) n ≡ false → memoryOf ws₂ n ≡ memoryOf ws₁ n
   own-kept o n e = view-only o n (λ q. held-apart (treeAt policy i) own e (sym q))
 
-  pub stays : {p : Run} → Reaches policy i ws ws p p
+  pub stays : {p : Run} {counting : Bool} {cs : List ℕ} → Reaches counting policy cs cs i ws ws p p
   stays = record { items = []; runs = λ c ec. shows-same refl; kept = λ n e r. refl; moved = moved-none }
 
-  pub reaches-then : {p q r : Run} {ws₁ ws₂ : Words} → Reaches policy i ws ws₁ p q → Reaches policy i ws₁ ws₂ q r → Reaches policy i ws ws₂ p r
+  pub reaches-then : {p q r : Run} {ws₁ ws₂ : Words} {counting : Bool} {cs cs₁ cs₂ : List ℕ} → Reaches counting policy cs cs₁ i ws ws₁ p q → Reaches counting policy cs₁ cs₂ i ws₁ ws₂ q r → Reaches counting policy cs cs₂ i ws ws₂ p r
   reaches-then {ws₁ = ws₁} f g =
       let e = path-same policy ws ws₁ (f .moved .keeps .tables) i in record {
         items = f .items ++ g .items;
@@ -90,47 +90,47 @@ module _ {policy : Bytes} {ws : Words} {i : ℕ} (h : Stands policy ws i) where
       }
 
   module _ (ph : Phase) where
-    pub begun : {ws₁ : Words} → Begun policy i ph ws ws₁ → Reaches policy i ws ws₁ (ranOf (treeAt policy i) ph (held (treeAt policy i) (memoryOf ws))) (leafRun (treeAt policy i) ph (memoryOf ws₁))
+    pub begun : {ws₁ : Words} {counting : Bool} {cs cs₁ : List ℕ} → Begun counting policy cs cs₁ i ph ws ws₁ → Reaches counting policy cs cs₁ i ws ws₁ (ranOf (treeAt policy i) ph (held (treeAt policy i) (memoryOf ws))) (leafRun (treeAt policy i) ph (memoryOf ws₁))
     begun {ws₁} b = record {
       items = b .begun .items;
       runs = λ c ec. shows-as (shows-from (ap (within c (memoryOf ws)) (b .begun .is)) (shows-silent c (memoryOf ws) (b .begun .items) (b .begun .quiet) _)) (sym (own-write (b .only) c ec _));
       kept = λ n e r. own-kept (b .only) n e;
-      moved = moved-quiet (low h) (b .only) (b .begun .quiet);
+      moved = moved-quiet (low h) (b .only) (b .begun .quiet) (b .begun .steps);
     }
 
     module _ {ws₁ : Words} where
-      pub went : {p : Run} → Reaches policy i ws ws₁ p (leafRun (treeAt policy i) ph (memoryOf ws₁)) → {ws₂ : Words} (x : Progress) → WentOn policy i ph ws₁ ws₂ x
-          → Reaches policy i ws ws₂ p (cameTo (treeAt policy i) ph ws₂ x)
+      pub went : {p : Run} {counting : Bool} {cs cs₁ cs₂ : List ℕ} → Reaches counting policy cs cs₁ i ws ws₁ p (leafRun (treeAt policy i) ph (memoryOf ws₁)) → {ws₂ : Words} (x : Progress) → WentOn counting policy cs₁ cs₂ i ph ws₁ ws₂ x
+          → Reaches counting policy cs cs₂ i ws ws₂ p (cameTo (treeAt policy i) ph ws₂ x)
       went g {ws₂} x w = record {
         items = g .items ++ w .gives .items;
         runs = λ c ec. shows-as (shows-then (g .runs c ec) (shows-from (ap (within c (memoryOf ws₁)) (w .gives .is)) (shows-silent c (memoryOf ws₁) (w .gives .items) (w .gives .quiet) _)))
             (sym (own-write (w .only) c ec _));
         kept = λ n e r. own-kept (w .only) n e ∙ g .kept n e r;
-        moved = moved-then (g .moved) (moved-quiet (low h) (w .only) (w .gives .quiet));
+        moved = moved-then (g .moved) (moved-quiet (low h) (w .only) (w .gives .quiet) (w .gives .steps));
       }
 
       -- its phase is over
-      pub leaf-ends : {u : Bool} → Reaches policy i ws ws₁ (ranOf (treeAt policy i) ph (held (treeAt policy i) (memoryOf ws))) (halts (record { state = held (treeAt policy i) (memoryOf ws₁); suppressed = u })) → (r : ℕ) → ended r ≡ done u → TurnsAt policy i ph ws ws₁ r
+      pub leaf-ends : {u : Bool} {counting : Bool} {cs cs₁ : List ℕ} → Reaches counting policy cs cs₁ i ws ws₁ (ranOf (treeAt policy i) ph (held (treeAt policy i) (memoryOf ws))) (halts (record { state = held (treeAt policy i) (memoryOf ws₁); suppressed = u })) → (r : ℕ) → ended r ≡ done u → TurnsAt counting policy cs cs₁ i ph ws ws₁ r
       unfolding GoesOn
-      leaf-ends {u} g r e = subst (λ (x : Ended). Turns (pathAt policy ws i) (treeAt policy i) ph ws ws₁ x) (sym e)
+      leaf-ends {u} {counting} {cs} {cs₁} g r e = subst (λ (x : Ended). Turns counting policy cs cs₁ (pathAt policy ws i) (treeAt policy i) ph ws ws₁ x) (sym e)
           (to-turns (record { runs = λ c ec. g .runs c ec; kept = λ n o q s. g .kept n o q }) (g .moved))
 
       -- its insert goes its way
-      module _ {b : Action} {p q : Run} (g : Reaches policy i ws ws₁ p (goes (lets b) q)) {ws₂ : Words} (r : ℕ) (m : Emits (pathAt policy ws₁ i) b ws₁ ws₂ (ended r)) where
-        as-emits : {x : Ended} → ended r ≡ x → Emits (pathAt policy ws i) b ws₁ ws₂ x
-        as-emits {x} e = subst (λ (y : Ended). Emits (pathAt policy ws i) b ws₁ ws₂ y) e (subst (λ (fs : List Feeder). Emits fs b ws₁ ws₂ (ended r)) (path-same policy ws ws₁ (g .moved .keeps .tables) i) m)
+      module _ {b : Action} {p q : Run} {counting : Bool} {cs cs₁ cs₂ : List ℕ} (g : Reaches counting policy cs cs₁ i ws ws₁ p (goes (lets b) q)) {ws₂ : Words} (r : ℕ) (m : Emits counting policy cs₁ cs₂ (pathAt policy ws₁ i) b ws₁ ws₂ (ended r)) where
+        as-emits : {x : Ended} → ended r ≡ x → Emits counting policy cs₁ cs₂ (pathAt policy ws i) b ws₁ ws₂ x
+        as-emits {x} e = subst (λ (y : Ended). Emits counting policy cs₁ cs₂ (pathAt policy ws i) b ws₁ ws₂ y) e (subst (λ (fs : List Feeder). Emits counting policy cs₁ cs₂ fs b ws₁ ws₂ (ended r)) (path-same policy ws ws₁ (g .moved .keeps .tables) i) m)
 
-        pub insert-stopped : p ≡ ranOf (treeAt policy i) ph (held (treeAt policy i) (memoryOf ws)) → 2 ≤ r → TurnsAt policy i ph ws ws₂ r
+        pub insert-stopped : p ≡ ranOf (treeAt policy i) ph (held (treeAt policy i) (memoryOf ws)) → 2 ≤ r → TurnsAt counting policy cs cs₂ i ph ws ws₂ r
         unfolding GoesOn
         insert-stopped ep l =
             let e = as-emits (stop-of r l) in
-            subst (λ (x : Ended). Turns (pathAt policy ws i) (treeAt policy i) ph ws ws₂ x) (sym (stop-of r l))
+            subst (λ (x : Ended). Turns counting policy cs cs₂ (pathAt policy ws i) (treeAt policy i) ph ws ws₂ x) (sym (stop-of r l))
             (to-turns (record {
               runs = λ c ec. stops-map (r - 2) c (memoryOf ws₂) _ _ (λ v y. shows-then (shows-from (ap (within c (memoryOf ws)) (sym ep)) (g .runs c ec)) y) (e .rose .runs c ec q);
               kept = λ n o z s. e .rose .kept n z s ∙ g .kept n o z;
             }) (moved-then (g .moved) (emits-moved e)))
 
-        pub insert-through : r < 2 → Reaches policy i ws ws₂ p q
+        pub insert-through : r < 2 → Reaches counting policy cs cs₂ i ws ws₂ p q
         unfolding GoesOn isStop
         insert-through l =
             let e = as-emits (done-of r l) in record {
@@ -151,8 +151,8 @@ module _ {policy : Bytes} {ws : Words} {i : ℕ} (h : Stands policy ws i) where
     leaf-same k m m′ e = subst (λ (t : Tree). leafRun t ph m′ ≡ leafRun t ph m) (sym (tree-leaf (h .passed) i (h .inside) k)) (ap (onward i _ ph) e)
 
     -- and there is less of its run left
-    pub insert-less : kindAt policy i ≡ aLeaf → {p : Run} {ws₁ ws₂ ws₃ : Words} {b : Action} → Reaches policy i ws ws₁ p (leafRun (treeAt policy i) ph (memoryOf ws₁)) → WentOn policy i ph ws₁ ws₂ (Insert b)
-        → (r : ℕ) → Emits (pathAt policy ws₂ i) b ws₂ ws₃ (ended r) → r < 2 → itemsLeft (leafRun (treeAt policy i) ph (memoryOf ws₃)) < itemsLeft (leafRun (treeAt policy i) ph (memoryOf ws₁))
+    pub insert-less : {counting : Bool} {cs cs₁ cs₂ cs₃ : List ℕ} → kindAt policy i ≡ aLeaf → {p : Run} {ws₁ ws₂ ws₃ : Words} {b : Action} → Reaches counting policy cs cs₁ i ws ws₁ p (leafRun (treeAt policy i) ph (memoryOf ws₁)) → WentOn counting policy cs₁ cs₂ i ph ws₁ ws₂ (Insert b)
+        → (r : ℕ) → Emits counting policy cs₂ cs₃ (pathAt policy ws₂ i) b ws₂ ws₃ (ended r) → r < 2 → itemsLeft (leafRun (treeAt policy i) ph (memoryOf ws₃)) < itemsLeft (leafRun (treeAt policy i) ph (memoryOf ws₁))
     insert-less k {ws₁ = ws₁} {ws₂} {ws₃} g w r m l =
         omega (arith, insert-takes w, ap itemsLeft (leaf-same k (memoryOf ws₂) (memoryOf ws₃) (insert-leaves (went g _ w) r m l)))
 

@@ -3,6 +3,7 @@ use Prim.Native.Nat.{ℕ, _+_, _<_}
 use native.Mathlib.Omega.{arith}
 use mathlib.Core.Path.{_≡_, refl, sym, ap, _∙_, subst}
 use mathlib.Core.Bool.{Bool, true, false}
+use mathlib.Core.List.{List}
 use lib.Dec.{eqb}
 use lib.ListN.{getD, set}
 use Rattle.spec_policy.specs.Bytes.{Bytes}
@@ -49,14 +50,14 @@ module _ {policy : Bytes} {ws : Words} {i : ℕ} (h : Stands policy ws i) (ph : 
   pub is-asked : {v : Bool} → v ≡ askedIn (getD ws (setPlace + i) 0) ph (memoryOf ws i) → v ≡ true → Asked policy ws i ph
   is-asked e z = asked-as ∙ sym e ∙ z
 
-  pub idle-turn : {v : Bool} → v ≡ askedIn (getD ws (setPlace + i) 0) ph (memoryOf ws i) → v ≡ false → TurnsAt policy i ph ws ws 0
+  pub idle-turn : {v : Bool} {counting : Bool} {cs : List ℕ} → v ≡ askedIn (getD ws (setPlace + i) 0) ph (memoryOf ws i) → v ≡ false → TurnsAt counting policy cs cs i ph ws ws 0
   unfolding ends.ended
   idle-turn e z = to-turns (turned-idle (pathAt policy ws i) t ph (memoryOf ws) (asked-as ∙ sym e ∙ z)) moved-none
 
   -- ---- over at once
 
-  over-turn : {ws′ : Words} (s : Status) → ranOf t ph (held t (memoryOf ws)) ≡ halts (record { state = leafOver s; suppressed = false }) → held t (memoryOf ws′) ≡ leafOver s
-      → Only i ws ws′ → TurnsAt policy i ph ws ws′ 0
+  over-turn : {ws′ : Words} {counting : Bool} {cs : List ℕ} (s : Status) → ranOf t ph (held t (memoryOf ws)) ≡ halts (record { state = leafOver s; suppressed = false }) → held t (memoryOf ws′) ≡ leafOver s
+      → Only i ws ws′ → TurnsAt counting policy cs cs i ph ws ws′ 0
   unfolding ends.ended GoesOn
   over-turn {ws′} s e f o =
       to-turns (record {
@@ -66,11 +67,11 @@ module _ {policy : Bytes} {ws : Words} {i : ℕ} (h : Stands policy ws i) (ph : 
 
   module _ (a : Asked policy ws i ph) {ws′ : Words} {r : ℕ} (er : r ≡ 0) where
     -- a node with nothing beneath it, whose phase only gives it this status
-    over-with : (u : Tree) (n : ℕ) → n < 256 → isRunning (statusOf n) ≡ false → t ≡ u
+    over-with : {counting : Bool} {cs : List ℕ} (u : Tree) (n : ℕ) → n < 256 → isRunning (statusOf n) ≡ false → t ≡ u
         → (isAsked (regulated u) ph (held u (memoryOf ws)) ≡ true → ranOf u ph (held u (memoryOf ws)) ≡ halts (record { state = leafOver (statusOf n); suppressed = false }))
-        → ((m : Mem) → held u m ≡ leafWith (m i .status) (m i .asked) 0 0) → ws′ ≡ set ws i (packed n 0 0 0) → TurnsAt policy i ph ws ws′ r
+        → ((m : Mem) → held u m ≡ leafWith (m i .status) (m i .asked) 0 0) → ws′ ≡ set ws i (packed n 0 0 0) → TurnsAt counting policy cs cs i ph ws ws′ r
     unfolding leafWith
-    over-with u n small decided e runs bare w = subst (λ (q : ℕ). TurnsAt policy i ph ws ws′ q) (sym er) (over-turn (statusOf n)
+    over-with {counting} {cs} u n small decided e runs bare w = subst (λ (q : ℕ). TurnsAt counting policy cs cs i ph ws ws′ q) (sym er) (over-turn (statusOf n)
         (subst (λ (x : Tree). isAsked (regulated x) ph (held x (memoryOf ws)) ≡ true → ranOf x ph (held x (memoryOf ws)) ≡ halts (record { state = leafOver (statusOf n); suppressed = false })) (sym e) runs a)
         (subst (λ (x : Tree). held x (memoryOf ws′) ≡ leafOver (statusOf n)) (sym e) (bare (memoryOf ws′) ∙ ap (λ (c : Cell). leafWith (c .status) (c .asked) 0 0) cell-now ∙ rw (decided, leafWith)))
         (subst (Only i ws) (sym w) (only-set ws i (packed n 0 0 0))))
@@ -79,11 +80,11 @@ module _ {policy : Bytes} {ws : Words} {i : ℕ} (h : Stands policy ws i) (ph : 
         cell-now =
             ap (λ (x : Words). memoryOf x i) w ∙ view-here ws i (packed n 0 0 0) (low h) (omega (arith, low h, h .sized)) ∙ celled-packed n 0 0 0 small (omega arith) (omega arith) (omega arith)
 
-    pub trivial-turn : t ≡ trivial i → ws′ ≡ set ws i (packed 2 0 0 0) → TurnsAt policy i ph ws ws′ r
+    pub trivial-turn : {counting : Bool} {cs : List ℕ} → t ≡ trivial i → ws′ ≡ set ws i (packed 2 0 0 0) → TurnsAt counting policy cs cs i ph ws ws′ r
     unfolding works quiet flat held statusOf isRunning
     trivial-turn e w = over-with (trivial i) 2 (omega arith) refl e (asked-works (trivial i) ph (held (trivial i) (memoryOf ws))) (λ m. refl) w
 
-    pub unsatisfiable-turn : t ≡ unsatisfiable i → ws′ ≡ set ws i (packed 5 0 0 0) → TurnsAt policy i ph ws ws′ r
+    pub unsatisfiable-turn : {counting : Bool} {cs : List ℕ} → t ≡ unsatisfiable i → ws′ ≡ set ws i (packed 5 0 0 0) → TurnsAt counting policy cs cs i ph ws ws′ r
     unfolding works quiet flat held statusOf isRunning
     unsatisfiable-turn e w = over-with (unsatisfiable i) 5 (omega arith) refl e (asked-works (unsatisfiable i) ph (held (unsatisfiable i) (memoryOf ws))) (λ m. refl) w
 

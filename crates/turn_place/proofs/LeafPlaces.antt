@@ -2,7 +2,7 @@
 use Prim.Native.Nat.{ℕ, _-_, _<_}
 use native.Mathlib.Omega.{arith}
 use mathlib.Core.Path.{_≡_, refl, sym, ap, ap₂, _∙_, subst}
-use mathlib.Core.Bool.{true}
+use mathlib.Core.Bool.{Bool, true}
 use mathlib.Core.List.{List}
 use Rattle.actions.specs.Sets.{ActionSet}
 use Rattle.spec_policy.specs.Bytes.{Bytes}
@@ -58,14 +58,14 @@ module _ {policy : Bytes} {ws : Words} {i : ℕ} (h : Stands policy ws i) (ek : 
   leaf-fits = (omega (arith, file-room h .few), omega (arith, s .0, s .1, leaf-room (h .passed) i (h .inside) ek))
 
   module _ (ph : Phase) (ws′ : Words) where
-    pub leaf-begun : Asked policy ws i ph
-        → ((r c : ℕ) → isAsked r ph (held (leaf i r c (codeFrom policy first k)) (memoryOf ws)) ≡ true → Left i r c (codeFrom policy first k) ph ws ws′) → Begun policy i ph ws ws′
+    pub leaf-begun : {on : Bool} {cs cs′ : List ℕ} → Asked policy ws i ph
+        → ((r c : ℕ) → isAsked r ph (held (leaf i r c (codeFrom policy first k)) (memoryOf ws)) ≡ true → Left i r c (codeFrom policy first k) ph on policy cs cs′ ws ws′) → Begun on policy cs cs′ i ph ws ws′
     unfolding leafRun regulated
-    leaf-begun a g =
+    leaf-begun {on} {cs} {cs′} a g =
         let z : isAsked set ph (held here (memoryOf ws)) ≡ true = subst (λ (t : Tree). isAsked (regulated t) ph (held t (memoryOf ws)) ≡ true) leaf-tree a in
         let l = g set start z in
         record {
-          begun = subst (λ (t : Tree). Quietly (ranOf t ph (held t (memoryOf ws))) (leafRun t ph (memoryOf ws′))) (sym leaf-tree) (l .begun);
+          begun = subst (λ (t : Tree). Quietly on policy cs cs′ (ranOf t ph (held t (memoryOf ws))) (leafRun t ph (memoryOf ws′))) (sym leaf-tree) (l .begun);
           only = l .only;
         }
 
@@ -74,12 +74,12 @@ module _ {policy : Bytes} {ws : Words} {i : ℕ} (h : Stands policy ws i) (ek : 
     came-to (Insert b) = refl
     came-to (Done u) = refl
 
-    pub leaf-went : {x : Progress} → ((r c : ℕ) → Ran i r c (codeFrom policy first k) ph ws ws′ x) → WentOn policy i ph ws ws′ x
+    pub leaf-went : {x : Progress} {on : Bool} {cs cs′ : List ℕ} → ((r c : ℕ) → Ran i r c (codeFrom policy first k) ph on policy cs cs′ ws ws′ x) → WentOn on policy cs cs′ i ph ws ws′ x
     unfolding leafRun
-    leaf-went {x} g =
+    leaf-went {x} {on} {cs} {cs′} g =
         let r = g set start in
         record {
-          gives = subst (λ (t : Tree). Quietly (leafRun t ph (memoryOf ws)) (cameTo t ph ws′ x)) (sym leaf-tree)
-              (subst (λ (q : Run). Quietly (leafRun here ph (memoryOf ws)) q) (came-to x) (r .gives));
+          gives = subst (λ (t : Tree). Quietly on policy cs cs′ (leafRun t ph (memoryOf ws)) (cameTo t ph ws′ x)) (sym leaf-tree)
+              (subst (λ (q : Run). Quietly on policy cs cs′ (leafRun here ph (memoryOf ws)) q) (came-to x) (r .gives));
           only = r .only;
         }

@@ -3,7 +3,7 @@
 use Prim.Native.Nat.{ℕ, _≤_, _<_}
 use mathlib.Core.Path.{_≡_}
 use mathlib.Core.Bool.{Bool, true, false}
-use mathlib.Core.List.{[], _∷_}
+use mathlib.Core.List.{List, [], _∷_}
 use lib.ListN.{length, getD}
 use Rattle.actions.specs.Sets.{Action}
 use Rattle.spec_policy.specs.Bytes.{Bytes}
@@ -57,9 +57,9 @@ leafRun (node w j i l r) ph m = ranOf (node w j i l r) ph (held (node w j i l r)
 abbrev pub StepsOf : Bytes → ℕ → (first count : ℕ) → Type 0
 StepsOf policy i first k = (first ≡ firstStep policy i) × (k ≡ nodeAt policy (nodePlace i) .count)
 
--- its phase has begun
-pub record Begun (policy : Bytes) (i : ℕ) (ph : Phase) (ws ws′ : Words) : Type 0 where
-  pub begun : Quietly (ranOf (treeAt policy i) ph (held (treeAt policy i) (memoryOf ws))) (leafRun (treeAt policy i) ph (memoryOf ws′))
+-- its phase has begun; where that is asked (on), its steps are counted
+pub record Begun (on : Bool) (policy : Bytes) (cs cs′ : List ℕ) (i : ℕ) (ph : Phase) (ws ws′ : Words) : Type 0 where
+  pub begun : Quietly on policy cs cs′ (ranOf (treeAt policy i) ph (held (treeAt policy i) (memoryOf ws))) (leafRun (treeAt policy i) ph (memoryOf ws′))
   pub only : Only i ws ws′
 
 -- it came to an insert, or to its phase's end
@@ -67,8 +67,8 @@ abbrev pub cameTo : Tree → Phase → Words → Progress → Run
 cameTo t ph ws′ (Insert b) = goes (lets b) (leafRun t ph (memoryOf ws′))
 cameTo t ph ws′ (Done u) = halts (record { state = held t (memoryOf ws′); suppressed = u })
 
-pub record WentOn (policy : Bytes) (i : ℕ) (ph : Phase) (ws ws′ : Words) (x : Progress) : Type 0 where
-  pub gives : Quietly (leafRun (treeAt policy i) ph (memoryOf ws)) (cameTo (treeAt policy i) ph ws′ x)
+pub record WentOn (on : Bool) (policy : Bytes) (cs cs′ : List ℕ) (i : ℕ) (ph : Phase) (ws ws′ : Words) (x : Progress) : Type 0 where
+  pub gives : Quietly on policy cs cs′ (leafRun (treeAt policy i) ph (memoryOf ws)) (cameTo (treeAt policy i) ph ws′ x)
   pub only : Only i ws ws′
 
 -- ---- an insert's way up

@@ -24,6 +24,7 @@ use turn_tables::NONE;
 use turn_tables::above_of;
 use turn_tables::feeder_of;
 use turn_tables::first_of;
+use turn_tally::STEP_COUNTS;
 
 // ---- a leaf
 
@@ -44,21 +45,55 @@ fn steps_of(policy: &[u8], mem: &[u64; WORDS], node: usize) -> Steps
 }
 
 // A leaf that is asked begins its phase.
-pub fn begin_leaf(policy: &[u8], mem: &mut [u64; WORDS], node: usize, phase: u8)
+pub fn begin_leaf(
+    policy: &[u8],
+    mem: &mut [u64; WORDS],
+    node: usize,
+    phase: u8,
+    counts: &mut [u32; STEP_COUNTS],
+    counting: bool,
+)
     requires { ⌜ Stands (now policy) (now mem) node × ((kindAt (now policy) node ≡ aLeaf) × Asked (now policy) (now mem) node (phaseOf phase)) ⌝ }
-    ensures { λ _. ⌜ Begun (now (policy .entry)) node (phaseOf phase) (now (mem .entry)) (now (mem .exit)) ⌝ }
+    ensures { λ _. ⌜ Begun counting (now (policy .entry)) (now (counts .entry)) (now (counts .exit))
+        node (phaseOf phase) (now (mem .entry)) (now (mem .exit)) ⌝ }
 {
     let steps = steps_of(policy, mem, node);
-    leave(policy, mem, node, steps.first, steps.count, phase);
+    leave(
+        policy,
+        mem,
+        node,
+        steps.first,
+        steps.count,
+        phase,
+        counts,
+        counting,
+    );
 }
 
 // Up to the leaf's next insert, or to its phase's end.
-pub fn run_leaf(policy: &[u8], mem: &mut [u64; WORDS], node: usize, phase: u8) -> Progress
+pub fn run_leaf(
+    policy: &[u8],
+    mem: &mut [u64; WORDS],
+    node: usize,
+    phase: u8,
+    counts: &mut [u32; STEP_COUNTS],
+    counting: bool,
+) -> Progress
     requires { ⌜ Stands (now policy) (now mem) node × (kindAt (now policy) node ≡ aLeaf) ⌝ }
-    ensures { λ x. ⌜ WentOn (now (policy .entry)) node (phaseOf phase) (now (mem .entry)) (now (mem .exit)) x ⌝ }
+    ensures { λ x. ⌜ WentOn counting (now (policy .entry)) (now (counts .entry)) (now (counts .exit))
+        node (phaseOf phase) (now (mem .entry)) (now (mem .exit)) x ⌝ }
 {
     let steps = steps_of(policy, mem, node);
-    run(policy, mem, node, steps.first, steps.count, phase)
+    run(
+        policy,
+        mem,
+        node,
+        steps.first,
+        steps.count,
+        phase,
+        counts,
+        counting,
+    )
 }
 
 // ---- an insert's way up

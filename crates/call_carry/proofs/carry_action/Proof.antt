@@ -1,32 +1,10 @@
--- `carry_action` meets its contract: the call carried out where the root is asked; else its verdict, and no change.
-use mathlib.Core.Path.{sym, _∙_}
+-- `carry_action` meets its contract: the same with no counts.
 use borrow.Author.Needs.{needs}
-use Rattle.actions.proofs.Tests.{of-yes}
-use Rattle.call_answer.specs.Requests.{asked}
-use Rattle.call_carry.specs.Calls.{readable, asksRoot}
-use Rattle.call_carry.proofs.CallLaws.{asks-root, stayed}
 use Rattle.call_carry.proofs.carry_action.Statement.{statement}
 use Rattle.call_carry.proofs.carry_action.Tie as tie
 
-carry-out-requires : tie.Need-carry-out-requires
-unfolding asksRoot
-carry-out-requires c κs =
-    let st = c .before .before .before .before .before .before .before .before .before .before in
-    let e = sym (asks-root (st .args .policy .now) (st .args .state .now) (st .args .action) (c .before .before .before .before .before .saved-status .ensures) (c .before .before .before .before .is-running .ensures) (c .before .before .before .has .ensures) (st .pre .1)) ∙ c .before .before .if1 .taken in
-    record { allowed = st .pre .0; asks = of-yes _ e }
-
 returns : tie.Need-returns
-unfolding asked
-returns c = c .before .before .before .before .carry-out .ensures
-
-returns-2 : tie.Need-returns-2
-unfolding readable
-returns-2 c =
-    let st = c .before .before .before .before .before .before .before .before .before .before .before .before in
-    let h = st .pre .0 in
-    stayed (st .args .policy .now) (st .args .state .now) (st .args .events .now) (h .passed) (h .state-size) (λ i. c .before .before .before .before .before .before .before .before .before .before .slice-known .given i .fits) (h .reads) (st .args .action)
-    (sym (asks-root (st .args .policy .now) (st .args .state .now) (st .args .action) (c .before .before .before .before .before .before .before .saved-status .ensures) (c .before .before .before .before .before .before .is-running .ensures) (c .before .before .before .before .before .has .ensures) (st .pre .1)) ∙ c .before .before .before .before .if1 .left)
-    (c .before .before .before .before .before .before .before .saved-status .ensures) (c .before .before .put-verdict .ensures)
+returns c = c .before .before .before .before .carry-action-counting .ensures .0
 
 pub carry-action-spec : {M : Type 1} → statement M
-carry-action-spec = tie.close (tie.spec (λ c κs. search needs) (λ c κs. search needs) (λ c κs. search needs) carry-out-requires (λ c. search needs) (λ c. search needs) returns (λ c κs. search needs) (λ c. search needs) (λ c. search needs) returns-2)
+carry-action-spec = tie.close (tie.spec (λ c κs. search needs) (λ c. search needs) (λ c. search needs) returns)

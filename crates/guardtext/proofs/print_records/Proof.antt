@@ -2,7 +2,8 @@
 use mathlib.Core.Path.{_∙_, ap}
 use Rattle.spec_policy.specs.Records.{nodePlace}
 use Rattle.text_append.proofs.AddedLaws.{named}
-use Rattle.guardtext.proofs.ShownLaws.{has-front, few-nodes, after-front, in-file, records-are}
+use Rattle.text_print.proofs.FileLaws.{has-front, few-nodes, after-front, in-file}
+use Rattle.guardtext.proofs.ShownLaws.{records-are}
 use borrow.Author.Needs.{needs}
 use Rattle.guardtext.proofs.print_records.Statement.{statement}
 use Rattle.guardtext.proofs.print_records.Tie as tie

@@ -3,7 +3,8 @@ use mathlib.Core.Path.{sym, ap, _∙_}
 use Rattle.check_policy.specs.Answers as checked
 use Rattle.text_append.specs.Refusal.{refusal}
 use Rattle.guardtext.specs.Shown.{answered}
-use Rattle.guardtext.proofs.ShownLaws.{pass-fits, shown-long, shown-short, told}
+use Rattle.text_print.proofs.FileLaws.{pass-fits}
+use Rattle.guardtext.proofs.ShownLaws.{shown-long, shown-short, told}
 use borrow.Author.Needs.{needs}
 use Rattle.guardtext.proofs.tell.Statement.{statement}
 use Rattle.guardtext.proofs.tell.Tie as tie

@@ -10,7 +10,8 @@ use Rattle.faults.specs.Meaning.{faultOf}
 use Rattle.faults.specs.declared.Fault.{Fault}
 use Rattle.text_append.proofs.AddedLaws.{joined, named}
 use Rattle.guardtext.specs.Shown.{recordsText, heading}
-use Rattle.guardtext.proofs.ShownLaws.{refused-fits, has-front, few-nodes, after-front, in-file, nodes-are, bare-text, full-text}
+use Rattle.text_print.proofs.FileLaws.{has-front, few-nodes, after-front, in-file, nodes-are}
+use Rattle.guardtext.proofs.ShownLaws.{refused-fits, bare-text, full-text}
 use borrow.Author.Needs.{needs}
 use Rattle.guardtext.proofs.tell_refused.Statement.{statement}
 use Rattle.guardtext.proofs.tell_refused.Tie as tie

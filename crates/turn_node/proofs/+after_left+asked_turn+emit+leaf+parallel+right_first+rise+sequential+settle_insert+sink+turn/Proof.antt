@@ -2,8 +2,9 @@ use native.Mathlib.Omega.{arith}
 use borrow.Author.Needs.{needs}
 use borrow.Author.Tests.{not-true, not-false}
 use Prim.Native.Nat.{ℕ, _+_, _*_, _-_, _≤_, _<_}
-use mathlib.Core.Path.{refl, sym, ap, _∙_, subst}
+use mathlib.Core.Path.{refl, sym, ap, _∙_, subst, subst₂}
 use mathlib.Core.Bool.{Bool}
+use mathlib.Core.List.{List}
 use lib.Dec.{eqb}
 use mathlib.Core.Logic.{⊎-elim}
 use Rattle.actions.specs.Sets.{Action, EMPTY, union}
@@ -93,117 +94,117 @@ use Rattle.turn_node.proofs.+after_left+asked_turn+emit+leaf+parallel+r
   close,
 }
 
-abbrev μ-after-left : Measures 2 after-left-kinds.ps ℕ
+abbrev μ-after-left : Measures 3 after-left-kinds.ps ℕ
 μ-after-left κs a = 8 * weight (a .0 .now) (a .1 .0 .now) (a .1 .1 .0) + 4
 
-abbrev μ-asked-turn : Measures 2 asked-turn-kinds.ps ℕ
+abbrev μ-asked-turn : Measures 3 asked-turn-kinds.ps ℕ
 μ-asked-turn κs a = 8 * weight (a .0 .now) (a .1 .0 .now) (a .1 .1 .0) + 6
 
-abbrev μ-emit : Measures 2 emit-kinds.ps ℕ
+abbrev μ-emit : Measures 3 emit-kinds.ps ℕ
 μ-emit κs a = 8 * way (a .0 .now) (a .1 .0 .now) (a .1 .1 .0) + 11
 
-abbrev μ-leaf : Measures 2 leaf-kinds.ps ℕ
+abbrev μ-leaf : Measures 3 leaf-kinds.ps ℕ
 μ-leaf κs a = 8 * way (a .0 .now) (a .1 .0 .now) (a .1 .1 .0) + 12
 
-abbrev μ-parallel : Measures 2 parallel-kinds.ps ℕ
+abbrev μ-parallel : Measures 3 parallel-kinds.ps ℕ
 μ-parallel κs a = 8 * weight (a .0 .now) (a .1 .0 .now) (a .1 .1 .0) + 5
 
-abbrev μ-right-first : Measures 2 right-first-kinds.ps ℕ
+abbrev μ-right-first : Measures 3 right-first-kinds.ps ℕ
 μ-right-first κs a = 8 * weight (a .0 .now) (a .1 .0 .now) (a .1 .1 .0) + 4
 
-abbrev μ-rise : Measures 2 rise-kinds.ps ℕ
+abbrev μ-rise : Measures 3 rise-kinds.ps ℕ
 μ-rise κs a = 8 * way (a .0 .now) (a .1 .0 .now) (a .1 .1 .0) + 10
 
-abbrev μ-sequential : Measures 2 sequential-kinds.ps ℕ
+abbrev μ-sequential : Measures 3 sequential-kinds.ps ℕ
 μ-sequential κs a = 8 * weight (a .0 .now) (a .1 .0 .now) (a .1 .1 .0) + 5
 
-abbrev μ-settle-insert : Measures 2 settle-insert-kinds.ps ℕ
+abbrev μ-settle-insert : Measures 3 settle-insert-kinds.ps ℕ
 μ-settle-insert κs a = 8 * (size (treeAt (a .0 .now) (rightAt (a .0 .now) (a .1 .1 .0))) + way (a .0 .now) (a .1 .0 .now) (a .1 .1 .0)) + 9
 
-abbrev μ-sink : Measures 2 sink-kinds.ps ℕ
+abbrev μ-sink : Measures 3 sink-kinds.ps ℕ
 μ-sink κs a = 8 * way (a .0 .now) (a .1 .0 .now) (a .1 .1 .1 .0) + 10
 
-abbrev μ-turn : Measures 2 turn-kinds.ps ℕ
+abbrev μ-turn : Measures 3 turn-kinds.ps ℕ
 μ-turn κs a = 8 * weight (a .0 .now) (a .1 .0 .now) (a .1 .1 .0) + 7
 
-abbrev after-left-at : ℕ → In 2 after-left-kinds.ps
+abbrev after-left-at : ℕ → In 3 after-left-kinds.ps
 after-left-at t =
-    and 2 after-left-kinds.ps (is 2 after-left-kinds.ps μ-after-left t) after-left.Pre
+    and 3 after-left-kinds.ps (is 3 after-left-kinds.ps μ-after-left t) after-left.Pre
 
-abbrev after-left-below : ℕ → In 2 after-left-kinds.ps
+abbrev after-left-below : ℕ → In 3 after-left-kinds.ps
 after-left-below t =
-    and 2 after-left-kinds.ps (falls 2 after-left-kinds.ps _<_ μ-after-left t) after-left.Pre
+    and 3 after-left-kinds.ps (falls 3 after-left-kinds.ps _<_ μ-after-left t) after-left.Pre
 
-abbrev asked-turn-at : ℕ → In 2 asked-turn-kinds.ps
-asked-turn-at t = and 2 asked-turn-kinds.ps (is 2 asked-turn-kinds.ps μ-asked-turn t) asked-turn.Pre
+abbrev asked-turn-at : ℕ → In 3 asked-turn-kinds.ps
+asked-turn-at t = and 3 asked-turn-kinds.ps (is 3 asked-turn-kinds.ps μ-asked-turn t) asked-turn.Pre
 
-abbrev asked-turn-below : ℕ → In 2 asked-turn-kinds.ps
-asked-turn-below t = and 2 asked-turn-kinds.ps (falls 2 asked-turn-kinds.ps _<_ μ-asked-turn t) asked-turn.Pre
+abbrev asked-turn-below : ℕ → In 3 asked-turn-kinds.ps
+asked-turn-below t = and 3 asked-turn-kinds.ps (falls 3 asked-turn-kinds.ps _<_ μ-asked-turn t) asked-turn.Pre
 
-abbrev emit-at : ℕ → In 2 emit-kinds.ps
-emit-at t = and 2 emit-kinds.ps (is 2 emit-kinds.ps μ-emit t) emit.Pre
+abbrev emit-at : ℕ → In 3 emit-kinds.ps
+emit-at t = and 3 emit-kinds.ps (is 3 emit-kinds.ps μ-emit t) emit.Pre
 
-abbrev emit-below : ℕ → In 2 emit-kinds.ps
-emit-below t = and 2 emit-kinds.ps (falls 2 emit-kinds.ps _<_ μ-emit t) emit.Pre
+abbrev emit-below : ℕ → In 3 emit-kinds.ps
+emit-below t = and 3 emit-kinds.ps (falls 3 emit-kinds.ps _<_ μ-emit t) emit.Pre
 
-abbrev leaf-at : ℕ → In 2 leaf-kinds.ps
-leaf-at t = and 2 leaf-kinds.ps (is 2 leaf-kinds.ps μ-leaf t) leaf.Pre
+abbrev leaf-at : ℕ → In 3 leaf-kinds.ps
+leaf-at t = and 3 leaf-kinds.ps (is 3 leaf-kinds.ps μ-leaf t) leaf.Pre
 
-abbrev leaf-below : ℕ → In 2 leaf-kinds.ps
-leaf-below t = and 2 leaf-kinds.ps (falls 2 leaf-kinds.ps _<_ μ-leaf t) leaf.Pre
+abbrev leaf-below : ℕ → In 3 leaf-kinds.ps
+leaf-below t = and 3 leaf-kinds.ps (falls 3 leaf-kinds.ps _<_ μ-leaf t) leaf.Pre
 
-abbrev parallel-at : ℕ → In 2 parallel-kinds.ps
-parallel-at t = and 2 parallel-kinds.ps (is 2 parallel-kinds.ps μ-parallel t) parallel.Pre
+abbrev parallel-at : ℕ → In 3 parallel-kinds.ps
+parallel-at t = and 3 parallel-kinds.ps (is 3 parallel-kinds.ps μ-parallel t) parallel.Pre
 
-abbrev parallel-below : ℕ → In 2 parallel-kinds.ps
+abbrev parallel-below : ℕ → In 3 parallel-kinds.ps
 parallel-below t =
-    and 2 parallel-kinds.ps (falls 2 parallel-kinds.ps _<_ μ-parallel t) parallel.Pre
+    and 3 parallel-kinds.ps (falls 3 parallel-kinds.ps _<_ μ-parallel t) parallel.Pre
 
-abbrev right-first-at : ℕ → In 2 right-first-kinds.ps
+abbrev right-first-at : ℕ → In 3 right-first-kinds.ps
 right-first-at t =
-    and 2 right-first-kinds.ps (is 2 right-first-kinds.ps μ-right-first t) right-first.Pre
+    and 3 right-first-kinds.ps (is 3 right-first-kinds.ps μ-right-first t) right-first.Pre
 
-abbrev right-first-below : ℕ → In 2 right-first-kinds.ps
+abbrev right-first-below : ℕ → In 3 right-first-kinds.ps
 right-first-below t =
-    and 2 right-first-kinds.ps (falls 2 right-first-kinds.ps _<_ μ-right-first t) right-first.Pre
+    and 3 right-first-kinds.ps (falls 3 right-first-kinds.ps _<_ μ-right-first t) right-first.Pre
 
-abbrev rise-at : ℕ → In 2 rise-kinds.ps
-rise-at t = and 2 rise-kinds.ps (is 2 rise-kinds.ps μ-rise t) rise.Pre
+abbrev rise-at : ℕ → In 3 rise-kinds.ps
+rise-at t = and 3 rise-kinds.ps (is 3 rise-kinds.ps μ-rise t) rise.Pre
 
-abbrev rise-below : ℕ → In 2 rise-kinds.ps
-rise-below t = and 2 rise-kinds.ps (falls 2 rise-kinds.ps _<_ μ-rise t) rise.Pre
+abbrev rise-below : ℕ → In 3 rise-kinds.ps
+rise-below t = and 3 rise-kinds.ps (falls 3 rise-kinds.ps _<_ μ-rise t) rise.Pre
 
-abbrev sequential-at : ℕ → In 2 sequential-kinds.ps
+abbrev sequential-at : ℕ → In 3 sequential-kinds.ps
 sequential-at t =
-    and 2 sequential-kinds.ps (is 2 sequential-kinds.ps μ-sequential t) sequential.Pre
+    and 3 sequential-kinds.ps (is 3 sequential-kinds.ps μ-sequential t) sequential.Pre
 
-abbrev sequential-below : ℕ → In 2 sequential-kinds.ps
+abbrev sequential-below : ℕ → In 3 sequential-kinds.ps
 sequential-below t =
-    and 2 sequential-kinds.ps (falls 2 sequential-kinds.ps _<_ μ-sequential t) sequential.Pre
+    and 3 sequential-kinds.ps (falls 3 sequential-kinds.ps _<_ μ-sequential t) sequential.Pre
 
-abbrev settle-insert-at : ℕ → In 2 settle-insert-kinds.ps
+abbrev settle-insert-at : ℕ → In 3 settle-insert-kinds.ps
 settle-insert-at t =
-    and 2 settle-insert-kinds.ps (is 2 settle-insert-kinds.ps μ-settle-insert t) settle-insert.Pre
+    and 3 settle-insert-kinds.ps (is 3 settle-insert-kinds.ps μ-settle-insert t) settle-insert.Pre
 
-abbrev settle-insert-below : ℕ → In 2 settle-insert-kinds.ps
+abbrev settle-insert-below : ℕ → In 3 settle-insert-kinds.ps
 settle-insert-below t =
     and
-    2
+    3
     settle-insert-kinds.ps
-    (falls 2 settle-insert-kinds.ps _<_ μ-settle-insert t)
+    (falls 3 settle-insert-kinds.ps _<_ μ-settle-insert t)
     settle-insert.Pre
 
-abbrev sink-at : ℕ → In 2 sink-kinds.ps
-sink-at t = and 2 sink-kinds.ps (is 2 sink-kinds.ps μ-sink t) sink.Pre
+abbrev sink-at : ℕ → In 3 sink-kinds.ps
+sink-at t = and 3 sink-kinds.ps (is 3 sink-kinds.ps μ-sink t) sink.Pre
 
-abbrev sink-below : ℕ → In 2 sink-kinds.ps
-sink-below t = and 2 sink-kinds.ps (falls 2 sink-kinds.ps _<_ μ-sink t) sink.Pre
+abbrev sink-below : ℕ → In 3 sink-kinds.ps
+sink-below t = and 3 sink-kinds.ps (falls 3 sink-kinds.ps _<_ μ-sink t) sink.Pre
 
-abbrev turn-at : ℕ → In 2 turn-kinds.ps
-turn-at t = and 2 turn-kinds.ps (is 2 turn-kinds.ps μ-turn t) turn.Pre
+abbrev turn-at : ℕ → In 3 turn-kinds.ps
+turn-at t = and 3 turn-kinds.ps (is 3 turn-kinds.ps μ-turn t) turn.Pre
 
-abbrev turn-below : ℕ → In 2 turn-kinds.ps
-turn-below t = and 2 turn-kinds.ps (falls 2 turn-kinds.ps _<_ μ-turn t) turn.Pre
+abbrev turn-below : ℕ → In 3 turn-kinds.ps
+turn-below t = and 3 turn-kinds.ps (falls 3 turn-kinds.ps _<_ μ-turn t) turn.Pre
 
 abbrev after-left-calls : ℕ → after-left-lts.Claims
 after-left-calls t = (joined-at-reads.Asked, joined-at-reads.Learnt, is-running-reads.Asked, is-running-reads.Learnt, goes-on-reads.Asked, goes-on-reads.Learnt, seq-end-reads.Asked, seq-end-reads.Learnt, right-of-reads.Asked, right-of-reads.Learnt, turn-below t, turn.Post)
@@ -263,25 +264,25 @@ after-left-right-of-requires t c κs =
 
 after-left-turn-requires : (t : ℕ) → after-left-lts.Need-turn-requires (after-left-calls t) (after-left-at t) after-left.Post
 after-left-turn-requires t c κs =
-    let e = c .before .before .before .before .before .before .before .before in
+    let e = c .before .before .before .before .before .before .before .before .before in
     let h = e .pre .1 .0 in
     let k = e .pre .1 .1 .0 in
-    (omega (arith, e .pre .0, right-less h k (c .right-of .ensures)), right-stands h k (c .right-of .ensures))
+    (omega (arith, e .pre .0, right-less h k (c .before .right-of .ensures)), right-stands h k (c .before .right-of .ensures))
 
 after-left-returns-2 : (t : ℕ) → after-left-lts.Need-returns-2 (after-left-calls t) (after-left-at t) after-left.Post
 after-left-returns-2 t c =
-    let e = c .before .before .before .before .before .before .before .before .before .before in
-    own-stopped (e .pre .1 .0) (e .pre .1 .1 .0) (phaseOf (e .args .phase)) (e .args .x) (ap (λ (v : Bool). goesOn (phaseOf (e .args .phase)) v (eqb (e .args .x) 1)) (sym (c .before .before .before .before .before .before .is-running .ensures ∙ ap isRunning (c .before .before .before .before .before .before .before .joined-at .ensures))) ∙ sym (c .before .before .before .before .before .goes-on .ensures) ∙ not-false _ (c .before .before .before .before .if1 .left)) (c .before .turn .result) (c .before .before .right-of .ensures) (c .before .turn .ensures) (c .if2 .taken)
+    let e = c .before .before .before .before .before .before .before .before .before .before .before in
+    own-stopped (e .pre .1 .0) (e .pre .1 .1 .0) (phaseOf (e .args .phase)) (e .args .x) (ap (λ (v : Bool). goesOn (phaseOf (e .args .phase)) v (eqb (e .args .x) 1)) (sym (c .before .before .before .before .before .before .before .is-running .ensures ∙ ap isRunning (c .before .before .before .before .before .before .before .before .joined-at .ensures))) ∙ sym (c .before .before .before .before .before .before .goes-on .ensures) ∙ not-false _ (c .before .before .before .before .before .if1 .left)) (c .before .turn .result) (c .before .before .before .right-of .ensures) (c .before .turn .ensures) (c .if2 .taken)
 
 after-left-seq-end-requires-2 : (t : ℕ) → after-left-lts.Need-seq-end-requires-2 (after-left-calls t) (after-left-at t) after-left.Post
 after-left-seq-end-requires-2 t c κs =
-    let e = c .before .before .before .before .before .before .before .before .before .before .before in
+    let e = c .before .before .before .before .before .before .before .before .before .before .before .before in
     ((sided-of (e .pre .1 .0) (e .pre .1 .1 .0), c .before .before .turn .ensures .keeps .sized ∙ e .pre .1 .0 .sized), omega (arith, c .before .if2 .left, e .pre .1 .1 .1 .0))
 
 after-left-returns-3 : (t : ℕ) → after-left-lts.Need-returns-3 (after-left-calls t) (after-left-at t) after-left.Post
 after-left-returns-3 t c =
-    let e = c .before .before .before .before .before .before .before .before .before .before .before .before in
-    own-ends (e .pre .1 .0) (e .pre .1 .1 .0) (phaseOf (e .args .phase)) (e .args .x) (ap (λ (v : Bool). goesOn (phaseOf (e .args .phase)) v (eqb (e .args .x) 1)) (sym (c .before .before .before .before .before .before .before .before .is-running .ensures ∙ ap isRunning (c .before .before .before .before .before .before .before .before .before .joined-at .ensures))) ∙ sym (c .before .before .before .before .before .before .before .goes-on .ensures) ∙ not-false _ (c .before .before .before .before .before .before .if1 .left)) (c .before .before .before .turn .result) (c .before .before .before .before .right-of .ensures) (c .before .before .before .turn .ensures) (c .before .before .if2 .left) (c .seq-end2 .result) (c .seq-end2 .ensures)
+    let e = c .before .before .before .before .before .before .before .before .before .before .before .before .before in
+    own-ends (e .pre .1 .0) (e .pre .1 .1 .0) (phaseOf (e .args .phase)) (e .args .x) (ap (λ (v : Bool). goesOn (phaseOf (e .args .phase)) v (eqb (e .args .x) 1)) (sym (c .before .before .before .before .before .before .before .before .before .is-running .ensures ∙ ap isRunning (c .before .before .before .before .before .before .before .before .before .before .joined-at .ensures))) ∙ sym (c .before .before .before .before .before .before .before .before .goes-on .ensures) ∙ not-false _ (c .before .before .before .before .before .before .before .if1 .left)) (c .before .before .before .turn .result) (c .before .before .before .before .before .right-of .ensures) (c .before .before .before .turn .ensures) (c .before .before .if2 .left) (c .seq-end2 .result) (c .seq-end2 .ensures)
 
 asked-turn-view-kind-requires : (t : ℕ) → asked-turn-lts.Need-view-kind-requires (asked-turn-calls t) (asked-turn-at t) asked-turn.Post
 asked-turn-view-kind-requires t c κs =
@@ -291,8 +292,8 @@ asked-turn-view-kind-requires t c κs =
 asked-turn-leaf-requires : (t : ℕ) → asked-turn-lts.Need-leaf-requires (asked-turn-calls t) (asked-turn-at t) asked-turn.Post
 unfolding kindOf
 asked-turn-leaf-requires t c κs =
-    let e = c .before .before .before .before .before in
-    (omega (arith, e .pre .0, size-some (treeAt (e .args .policy .now) (e .args .node))), (e .pre .1 .0, (kind-at _ _ refl _ (c .before .before .before .view-kind .ensures) (c .before .enum-told .given .1), e .pre .1 .1)))
+    let e = c .before .before .before .before .before .before in
+    (omega (arith, e .pre .0, size-some (treeAt (e .args .policy .now) (e .args .node))), (e .pre .1 .0, (kind-at _ _ refl _ (c .before .before .before .before .view-kind .ensures) (c .before .before .enum-told .given .1), e .pre .1 .1)))
 
 asked-turn-over-requires : (t : ℕ) → asked-turn-lts.Need-over-requires (asked-turn-calls t) (asked-turn-at t) asked-turn.Post
 asked-turn-over-requires t c κs = low (c .before .before .before .before .before .pre .1 .0)
@@ -303,14 +304,14 @@ asked-turn-over-requires-2 t c κs = low (c .before .before .before .before .bef
 asked-turn-parallel-requires : (t : ℕ) → asked-turn-lts.Need-parallel-requires (asked-turn-calls t) (asked-turn-at t) asked-turn.Post
 unfolding wayOf
 asked-turn-parallel-requires t c κs =
-    let e = c .before .before .before .before .before .before .before .before in
-    (omega (arith, e .pre .0), (e .pre .1 .0, (pair-kind _ _ refl _ (c .before .before .before .before .before .before .view-kind .ensures) (c .before .before .before .before .kind .given .1) (c .before .enum-told4 .given .1), e .pre .1 .1)))
+    let e = c .before .before .before .before .before .before .before .before .before in
+    (omega (arith, e .pre .0), (e .pre .1 .0, (pair-kind _ _ refl _ (c .before .before .before .before .before .before .before .view-kind .ensures) (c .before .before .before .before .before .kind .given .1) (c .before .before .enum-told4 .given .1), e .pre .1 .1)))
 
 asked-turn-sequential-requires : (t : ℕ) → asked-turn-lts.Need-sequential-requires (asked-turn-calls t) (asked-turn-at t) asked-turn.Post
 unfolding wayOf
 asked-turn-sequential-requires t c κs =
-    let e = c .before .before .before .before .before .before .before .before in
-    (omega (arith, e .pre .0), (e .pre .1 .0, (pair-kind _ _ refl _ (c .before .before .before .before .before .before .view-kind .ensures) (c .before .before .before .before .kind .given .1) (c .before .enum-told5 .given .1), e .pre .1 .1)))
+    let e = c .before .before .before .before .before .before .before .before .before in
+    (omega (arith, e .pre .0), (e .pre .1 .0, (pair-kind _ _ refl _ (c .before .before .before .before .before .before .before .view-kind .ensures) (c .before .before .before .before .before .kind .given .1) (c .before .before .enum-told5 .given .1), e .pre .1 .1)))
 
 asked-turn-over-requires-3 : (t : ℕ) → asked-turn-lts.Need-over-requires-3 (asked-turn-calls t) (asked-turn-at t) asked-turn.Post
 asked-turn-over-requires-3 t c κs = low (c .before .before .before .before .before .pre .1 .0)
@@ -344,7 +345,7 @@ asked-turn-returns-6 t c =
 
 emit-rise-requires : (t : ℕ) → emit-lts.Need-rise-requires (emit-calls t) (emit-at t) emit.Post
 emit-rise-requires t c κs =
-    let e = c .before .before in
+    let e = c .before .before .before in
     (omega (arith, e .pre .0), e .pre .1)
 
 emit-returns : (t : ℕ) → emit-lts.Need-returns (emit-calls t) (emit-at t) emit.Post
@@ -352,87 +353,87 @@ emit-returns t c = c .before .before .rise .ensures .stops (c .if1 .taken)
 
 emit-sink-requires : (t : ℕ) → emit-lts.Need-sink-requires (emit-calls t) (emit-at t) emit.Post
 emit-sink-requires t c κs =
-    let e = c .before .before .before .before .before .before in
-    let o = c .before .before .before .rise .ensures .over (c .before .if1 .left) in
+    let e = c .before .before .before .before .before .before .before .before in
+    let o = c .before .before .before .before .rise .ensures .over (c .before .before .if1 .left) in
     (omega (arith, e .pre .0, way-kept (e .args .policy .now) (e .args .node) (o .keeps)), (stands-on (e .pre .1) (o .keeps), fed-stand (e .pre .1) o))
 
 emit-returns-2 : (t : ℕ) → emit-lts.Need-returns-2 (emit-calls t) (emit-at t) emit.Post
 emit-returns-2 t c =
-    let e = c .before .before .before .before .before .before .before in
-    all-the-way _ (c .before .before .before .before .rise .ensures .over (c .before .before .if1 .left)) (λ o. c .sink .ensures (e .args .mem .now) (e .args .b) o)
+    let e = c .before .before .before .before .before .before .before .before .before in
+    all-the-way _ (c .before .before .before .before .before .rise .ensures .over (c .before .before .before .if1 .left)) (λ o. c .sink .ensures (e .args .mem .now) (e .args .counts .now) (e .args .b) o)
 
 abbrev leaf-Inv-loop : leaf-lts.InvT-loop
-leaf-Inv-loop policy mem₀ node phase mem = Reaches policy node mem₀ mem (leafRun (treeAt policy node) (phaseOf phase) (memoryOf mem₀)) (leafRun (treeAt policy node) (phaseOf phase) (memoryOf mem))
+leaf-Inv-loop policy mem₀ node phase counts₀ counting mem counts = Reaches counting policy counts₀ counts node mem₀ mem (leafRun (treeAt policy node) (phaseOf phase) (memoryOf mem₀)) (leafRun (treeAt policy node) (phaseOf phase) (memoryOf mem))
 
 abbrev leaf-μ-loop : leaf-lts.MeasureT-loop
-leaf-μ-loop policy mem₀ node phase mem = itemsLeft (leafRun (treeAt policy node) (phaseOf phase) (memoryOf mem))
+leaf-μ-loop policy mem₀ node phase counts₀ counting mem counts = itemsLeft (leafRun (treeAt policy node) (phaseOf phase) (memoryOf mem))
 
 leaf-begin-leaf-requires : (t : ℕ) → leaf-lts.Need-begin-leaf-requires (leaf-calls t) (leaf-at t) leaf.Post leaf-Inv-loop leaf-μ-loop
-leaf-begin-leaf-requires t c κs = c .before .before .pre .1
+leaf-begin-leaf-requires t c κs = c .before .before .before .pre .1
 
 leaf-loop-holds : (t : ℕ) → leaf-lts.Need-loop-holds (leaf-calls t) (leaf-at t) leaf.Post leaf-Inv-loop leaf-μ-loop
 leaf-loop-holds t c =
-    let e = c .before .before .before in
+    let e = c .before .before .before .before in
     stays (stands-on (e .pre .1 .0) (begun (e .pre .1 .0) (phaseOf (e .args .phase)) (c .begin-leaf .ensures) .moved .keeps))
 
 leaf-run-leaf-requires : (t : ℕ) → leaf-lts.Need-run-leaf-requires (leaf-calls t) (leaf-at t) leaf.Post leaf-Inv-loop leaf-μ-loop
 leaf-run-leaf-requires t c κs =
-    let e = c .before .before .before .before .before in
+    let e = c .before .before .before .before .before .before .before in
     let h = e .pre .1 .0 in
     let ph = phaseOf (e .args .phase) in
-    let b = begun h ph (c .before .before .begin-leaf .ensures) in
+    let b = begun h ph (c .before .before .before .begin-leaf .ensures) in
     let h₁ = stands-on h (b .moved .keeps) in
-    (stands-on h₁ (c .before .loop .inv .moved .keeps), e .pre .1 .1 .0)
+    (stands-on h₁ (c .before .before .loop .inv .moved .keeps), e .pre .1 .1 .0)
 
 leaf-emit-requires : (t : ℕ) → leaf-lts.Need-emit-requires (leaf-calls t) (leaf-at t) leaf.Post leaf-Inv-loop leaf-μ-loop
 leaf-emit-requires t c κs =
-    let e = c .before .before .before .before .before .before .before .before .before .before in
+    let e = c .before .before .before .before .before .before .before .before .before .before .before .before .before in
     let h = e .pre .1 .0 in
     let ph = phaseOf (e .args .phase) in
-    let b = begun h ph (c .before .before .before .before .before .before .before .begin-leaf .ensures) in
+    let b = begun h ph (c .before .before .before .before .before .before .before .before .before .begin-leaf .ensures) in
     let h₁ = stands-on h (b .moved .keeps) in
-    let kp = keeps-then (b .moved .keeps) (keeps-then (c .before .before .before .before .before .before .loop .inv .moved .keeps) (keeps-only (low h) (c .before .before .before .before .run-leaf .ensures .only))) in
+    let kp = keeps-then (b .moved .keeps) (keeps-then (c .before .before .before .before .before .before .before .before .loop .inv .moved .keeps) (keeps-only (low h) (c .before .before .before .before .before .run-leaf .ensures .only))) in
     (omega (arith, e .pre .0, way-kept (e .args .policy .now) (e .args .node) kp), stands-on h kp)
 
 leaf-returns : (t : ℕ) → leaf-lts.Need-returns (leaf-calls t) (leaf-at t) leaf.Post leaf-Inv-loop leaf-μ-loop
 leaf-returns t c =
-    let e = c .before .before .before .before .before .before .before .before .before .before .before .before in
+    let e = c .before .before .before .before .before .before .before .before .before .before .before .before .before .before .before in
     let h = e .pre .1 .0 in
     let ph = phaseOf (e .args .phase) in
-    let b = begun h ph (c .before .before .before .before .before .before .before .before .before .begin-leaf .ensures) in
+    let b = begun h ph (c .before .before .before .before .before .before .before .before .before .before .before .begin-leaf .ensures) in
     let h₁ = stands-on h (b .moved .keeps) in
-    let w = subst (WentOn (e .args .policy .now) (e .args .node) ph _ _) (c .before .before .before .before .x .given .1) (c .before .before .before .before .before .before .run-leaf .ensures) in
-    insert-stopped h ph (went h ph (reaches-then h b (c .before .before .before .before .before .before .before .before .loop .inv)) _ w) (c .before .emit .result) (c .before .emit .ensures) refl (omega (arith, c .if1 .taken))
+    let w = subst (WentOn (e .args .counting) (e .args .policy .now) _ _ (e .args .node) ph _ _) (c .before .before .before .before .before .x .given .1) (c .before .before .before .before .before .before .before .run-leaf .ensures) in
+    insert-stopped h ph (went h ph (reaches-then h b (c .before .before .before .before .before .before .before .before .before .before .loop .inv)) _ w) (c .before .emit .result) (c .before .emit .ensures) refl (omega (arith, c .if1 .taken))
 
 leaf-loop-less : (t : ℕ) → leaf-lts.Need-loop-less (leaf-calls t) (leaf-at t) leaf.Post leaf-Inv-loop leaf-μ-loop
 leaf-loop-less t c =
-    let e = c .before .before .before .before .before .before .before .before .before .before .before .before in
+    let e = c .before .before .before .before .before .before .before .before .before .before .before .before .before .before .before in
     let h = e .pre .1 .0 in
     let ph = phaseOf (e .args .phase) in
-    let b = begun h ph (c .before .before .before .before .before .before .before .before .before .begin-leaf .ensures) in
+    let b = begun h ph (c .before .before .before .before .before .before .before .before .before .before .before .begin-leaf .ensures) in
     let h₁ = stands-on h (b .moved .keeps) in
-    insert-less h₁ ph (e .pre .1 .1 .0) (c .before .before .before .before .before .before .before .before .loop .inv) (subst (WentOn (e .args .policy .now) (e .args .node) ph _ _) (c .before .before .before .before .x .given .1) (c .before .before .before .before .before .before .run-leaf .ensures)) (c .before .emit .result) (c .before .emit .ensures) (c .if1 .left)
+    insert-less h₁ ph (e .pre .1 .1 .0) (c .before .before .before .before .before .before .before .before .before .before .loop .inv) (subst (WentOn (e .args .counting) (e .args .policy .now) _ _ (e .args .node) ph _ _) (c .before .before .before .before .before .x .given .1) (c .before .before .before .before .before .before .before .run-leaf .ensures)) (c .before .emit .result) (c .before .emit .ensures) (c .if1 .left)
 
 leaf-loop-again : (t : ℕ) → leaf-lts.Need-loop-again (leaf-calls t) (leaf-at t) leaf.Post leaf-Inv-loop leaf-μ-loop
 leaf-loop-again t c =
-    let e = c .before .before .before .before .before .before .before .before .before .before .before .before in
+    let e = c .before .before .before .before .before .before .before .before .before .before .before .before .before .before .before in
     let h = e .pre .1 .0 in
     let ph = phaseOf (e .args .phase) in
-    let b = begun h ph (c .before .before .before .before .before .before .before .before .before .begin-leaf .ensures) in
+    let b = begun h ph (c .before .before .before .before .before .before .before .before .before .before .before .begin-leaf .ensures) in
     let h₁ = stands-on h (b .moved .keeps) in
-    let w = subst (WentOn (e .args .policy .now) (e .args .node) ph _ _) (c .before .before .before .before .x .given .1) (c .before .before .before .before .before .before .run-leaf .ensures) in
-    let g = went h₁ ph (c .before .before .before .before .before .before .before .before .loop .inv) _ w in
-    subst (Reaches (e .args .policy .now) (e .args .node) _ _ _) (sym (leaf-same h ph (e .pre .1 .1 .0) _ _ (insert-leaves h₁ ph g (c .before .emit .result) (c .before .emit .ensures) (c .if1 .left)))) (insert-through h₁ ph g (c .before .emit .result) (c .before .emit .ensures) (c .if1 .left))
+    let w = subst (WentOn (e .args .counting) (e .args .policy .now) _ _ (e .args .node) ph _ _) (c .before .before .before .before .before .x .given .1) (c .before .before .before .before .before .before .before .run-leaf .ensures) in
+    let g = went h₁ ph (c .before .before .before .before .before .before .before .before .before .before .loop .inv) _ w in
+    subst (Reaches (e .args .counting) (e .args .policy .now) _ _ (e .args .node) _ _ _) (sym (leaf-same h ph (e .pre .1 .1 .0) _ _ (insert-leaves h₁ ph g (c .before .emit .result) (c .before .emit .ensures) (c .if1 .left)))) (insert-through h₁ ph g (c .before .emit .result) (c .before .emit .ensures) (c .if1 .left))
 
 leaf-returns-2 : (t : ℕ) → leaf-lts.Need-returns-2 (leaf-calls t) (leaf-at t) leaf.Post leaf-Inv-loop leaf-μ-loop
 leaf-returns-2 t c =
-    let e = c .before .before .before .before .before .before .before .before .before in
+    let e = c .before .before .before .before .before .before .before .before .before .before .before in
     let h = e .pre .1 .0 in
     let ph = phaseOf (e .args .phase) in
-    let b = begun h ph (c .before .before .before .before .before .before .begin-leaf .ensures) in
+    let b = begun h ph (c .before .before .before .before .before .before .before .begin-leaf .ensures) in
     let h₁ = stands-on h (b .moved .keeps) in
-    let w = subst (WentOn (e .args .policy .now) (e .args .node) ph _ _) (c .before .x2 .given .1) (c .before .before .before .run-leaf .ensures) in
-    leaf-ends h ph (went h ph (reaches-then h b (c .before .before .before .before .before .loop .inv)) _ w) _ (byte-ended _)
+    let w = subst (WentOn (e .args .counting) (e .args .policy .now) _ _ (e .args .node) ph _ _) (c .before .x2 .given .1) (c .before .before .before .run-leaf .ensures) in
+    leaf-ends h ph (went h ph (reaches-then h b (c .before .before .before .before .before .before .loop .inv)) _ w) _ (byte-ended _)
 
 parallel-left-of-requires : (t : ℕ) → parallel-lts.Need-left-of-requires (parallel-calls t) (parallel-at t) parallel.Post
 parallel-left-of-requires t c κs =
@@ -441,43 +442,43 @@ parallel-left-of-requires t c κs =
 
 parallel-turn-requires : (t : ℕ) → parallel-lts.Need-turn-requires (parallel-calls t) (parallel-at t) parallel.Post
 parallel-turn-requires t c κs =
-    let e = c .before .before .before in
+    let e = c .before .before .before .before in
     let h = e .pre .1 .0 in
     let k = e .pre .1 .1 .0 in
-    (omega (arith, e .pre .0, left-less-parallel h k (c .left-of .ensures)), left-stands-parallel h k (c .left-of .ensures))
+    (omega (arith, e .pre .0, left-less-parallel h k (c .before .left-of .ensures)), left-stands-parallel h k (c .before .left-of .ensures))
 
 parallel-returns : (t : ℕ) → parallel-lts.Need-returns (parallel-calls t) (parallel-at t) parallel.Post
 parallel-returns t c =
-    let e = c .before .before .before .before .before in
-    left-stops (e .pre .1 .0) (e .pre .1 .1 .0) _ (e .pre .1 .1 .1) (c .before .turn .result) (c .before .before .left-of .ensures) (c .before .turn .ensures) (c .if1 .taken)
+    let e = c .before .before .before .before .before .before in
+    left-stops (e .pre .1 .0) (e .pre .1 .1 .0) _ (e .pre .1 .1 .1) (c .before .turn .result) (c .before .before .before .left-of .ensures) (c .before .turn .ensures) (c .if1 .taken)
 
 parallel-right-of-requires : (t : ℕ) → parallel-lts.Need-right-of-requires (parallel-calls t) (parallel-at t) parallel.Post
 parallel-right-of-requires t c κs =
-    let e = c .before .before .before .before .before .before in
+    let e = c .before .before .before .before .before .before .before in
     placed-here (sided-of (e .pre .1 .0) (e .pre .1 .1 .0))
 
 parallel-turn-requires-2 : (t : ℕ) → parallel-lts.Need-turn-requires-2 (parallel-calls t) (parallel-at t) parallel.Post
 parallel-turn-requires-2 t c κs =
-    let e = c .before .before .before .before .before .before .before in
-    let kp = c .before .before .before .turn .ensures .keeps in
+    let e = c .before .before .before .before .before .before .before .before .before in
+    let kp = c .before .before .before .before .turn .ensures .keeps in
     let h = stands-on (e .pre .1 .0) kp in
     let k = e .pre .1 .1 .0 in
-    (omega (arith, e .pre .0, right-less h k (c .right-of .ensures), way-kept (e .args .policy .now) (e .args .node) kp), right-stands h k (c .right-of .ensures))
+    (omega (arith, e .pre .0, right-less h k (c .before .right-of .ensures), way-kept (e .args .policy .now) (e .args .node) kp), right-stands h k (c .before .right-of .ensures))
 
 parallel-returns-2 : (t : ℕ) → parallel-lts.Need-returns-2 (parallel-calls t) (parallel-at t) parallel.Post
 parallel-returns-2 t c =
-    let e = c .before .before .before .before .before .before .before .before .before in
-    right-stops (e .pre .1 .0) (e .pre .1 .1 .0) _ (e .pre .1 .1 .1) (c .before .before .before .before .before .turn .result) (c .before .before .before .before .before .before .left-of .ensures) (c .before .before .before .before .before .turn .ensures) (c .before .before .before .before .if1 .left) (c .before .turn2 .result) (c .before .before .right-of .ensures) (c .before .turn2 .ensures) (c .if2 .taken)
+    let e = c .before .before .before .before .before .before .before .before .before .before .before in
+    right-stops (e .pre .1 .0) (e .pre .1 .1 .0) _ (e .pre .1 .1 .1) (c .before .before .before .before .before .before .turn .result) (c .before .before .before .before .before .before .before .before .left-of .ensures) (c .before .before .before .before .before .before .turn .ensures) (c .before .before .before .before .before .if1 .left) (c .before .turn2 .result) (c .before .before .before .right-of .ensures) (c .before .turn2 .ensures) (c .if2 .taken)
 
 parallel-par-end-requires : (t : ℕ) → parallel-lts.Need-par-end-requires (parallel-calls t) (parallel-at t) parallel.Post
 parallel-par-end-requires t c κs =
-    let e = c .before .before .before .before .before .before .before .before .before .before in
-    ((sided-of (e .pre .1 .0) (e .pre .1 .1 .0), c .before .before .turn2 .ensures .keeps .sized ∙ c .before .before .before .before .before .before .turn .ensures .keeps .sized ∙ e .pre .1 .0 .sized), (omega (arith, c .before .before .before .before .before .if1 .left, c .before .if2 .left), omega (arith, c .before .before .before .before .before .if1 .left, c .before .if2 .left)))
+    let e = c .before .before .before .before .before .before .before .before .before .before .before .before in
+    ((sided-of (e .pre .1 .0) (e .pre .1 .1 .0), c .before .before .turn2 .ensures .keeps .sized ∙ c .before .before .before .before .before .before .before .turn .ensures .keeps .sized ∙ e .pre .1 .0 .sized), (omega (arith, c .before .before .before .before .before .before .if1 .left, c .before .if2 .left), omega (arith, c .before .before .before .before .before .before .if1 .left, c .before .if2 .left)))
 
 parallel-returns-3 : (t : ℕ) → parallel-lts.Need-returns-3 (parallel-calls t) (parallel-at t) parallel.Post
 parallel-returns-3 t c =
-    let e = c .before .before .before .before .before .before .before .before .before .before .before in
-    both-end (e .pre .1 .0) (e .pre .1 .1 .0) _ (e .pre .1 .1 .1) (c .before .before .before .before .before .before .before .turn .result) (c .before .before .before .before .before .before .before .before .left-of .ensures) (c .before .before .before .before .before .before .before .turn .ensures) (c .before .before .before .before .before .before .if1 .left) (c .before .before .before .turn2 .result) (c .before .before .before .before .right-of .ensures) (c .before .before .before .turn2 .ensures) (c .before .before .if2 .left) (c .par-end .result) (c .par-end .ensures)
+    let e = c .before .before .before .before .before .before .before .before .before .before .before .before .before in
+    both-end (e .pre .1 .0) (e .pre .1 .1 .0) _ (e .pre .1 .1 .1) (c .before .before .before .before .before .before .before .before .turn .result) (c .before .before .before .before .before .before .before .before .before .before .left-of .ensures) (c .before .before .before .before .before .before .before .before .turn .ensures) (c .before .before .before .before .before .before .before .if1 .left) (c .before .before .before .turn2 .result) (c .before .before .before .before .before .right-of .ensures) (c .before .before .before .turn2 .ensures) (c .before .before .if2 .left) (c .par-end .result) (c .par-end .ensures)
 
 right-first-right-of-requires : (t : ℕ) → right-first-lts.Need-right-of-requires (right-first-calls t) (right-first-at t) right-first.Post
 right-first-right-of-requires t c κs =
@@ -486,71 +487,71 @@ right-first-right-of-requires t c κs =
 
 right-first-turn-requires : (t : ℕ) → right-first-lts.Need-turn-requires (right-first-calls t) (right-first-at t) right-first.Post
 right-first-turn-requires t c κs =
-    let e = c .before .before .before in
+    let e = c .before .before .before .before in
     let h = e .pre .1 .0 in
     let k = e .pre .1 .1 .0 in
-    (omega (arith, e .pre .0, right-less h k (c .right-of .ensures)), right-stands h k (c .right-of .ensures))
+    (omega (arith, e .pre .0, right-less h k (c .before .right-of .ensures)), right-stands h k (c .before .right-of .ensures))
 
 right-first-returns : (t : ℕ) → right-first-lts.Need-returns (right-first-calls t) (right-first-at t) right-first.Post
 unfolding phaseOf
 right-first-returns t c =
-    let e = c .before .before .before .before .before in
-    right-first-stopped (e .pre .1 .0) (e .pre .1 .1 .0) (e .pre .1 .1 .1) (c .before .turn .result) (c .before .before .right-of .ensures) (c .before .turn .ensures) (c .if1 .taken)
+    let e = c .before .before .before .before .before .before in
+    right-first-stopped (e .pre .1 .0) (e .pre .1 .1 .0) (e .pre .1 .1 .1) (c .before .turn .result) (c .before .before .before .right-of .ensures) (c .before .turn .ensures) (c .if1 .taken)
 
 right-first-joined-at-requires : (t : ℕ) → right-first-lts.Need-joined-at-requires (right-first-calls t) (right-first-at t) right-first.Post
 right-first-joined-at-requires t c κs =
-    let e = c .before .before .before .before .before .before in
+    let e = c .before .before .before .before .before .before .before in
     sided-of (e .pre .1 .0) (e .pre .1 .1 .0)
 
 right-first-seq-end-requires : (t : ℕ) → right-first-lts.Need-seq-end-requires (right-first-calls t) (right-first-at t) right-first.Post
 right-first-seq-end-requires t c κs =
-    let e = c .before .before .before .before .before .before .before .before .before .before in
+    let e = c .before .before .before .before .before .before .before .before .before .before .before in
     ((sided-of (e .pre .1 .0) (e .pre .1 .1 .0), c .before .before .before .before .before .before .turn .ensures .keeps .sized ∙ e .pre .1 .0 .sized), omega arith)
 
 right-first-returns-2 : (t : ℕ) → right-first-lts.Need-returns-2 (right-first-calls t) (right-first-at t) right-first.Post
 unfolding phaseOf
 right-first-returns-2 t c =
-    let e = c .before .before .before .before .before .before .before .before .before .before .before in
-    right-first-over (e .pre .1 .0) (e .pre .1 .1 .0) (e .pre .1 .1 .1) (c .before .before .before .before .before .before .before .turn .result) (c .before .before .before .before .before .before .before .before .right-of .ensures) (c .before .before .before .before .before .before .before .turn .ensures) (c .before .before .before .before .before .before .if1 .left) (sym (ap isRunning (c .before .before .before .before .joined-at .ensures)) ∙ sym (c .before .before .before .is-running .ensures) ∙ not-true _ (c .before .before .if2 .taken)) 0 (c .seq-end .result) (c .seq-end .ensures)
+    let e = c .before .before .before .before .before .before .before .before .before .before .before .before in
+    right-first-over (e .pre .1 .0) (e .pre .1 .1 .0) (e .pre .1 .1 .1) (c .before .before .before .before .before .before .before .turn .result) (c .before .before .before .before .before .before .before .before .before .right-of .ensures) (c .before .before .before .before .before .before .before .turn .ensures) (c .before .before .before .before .before .before .if1 .left) (sym (ap isRunning (c .before .before .before .before .joined-at .ensures)) ∙ sym (c .before .before .before .is-running .ensures) ∙ not-true _ (c .before .before .if2 .taken)) 0 (c .seq-end .result) (c .seq-end .ensures)
 
 right-first-left-of-requires : (t : ℕ) → right-first-lts.Need-left-of-requires (right-first-calls t) (right-first-at t) right-first.Post
 right-first-left-of-requires t c κs =
-    let e = c .before .before .before .before .before .before .before .before .before .before in
+    let e = c .before .before .before .before .before .before .before .before .before .before .before in
     placed-here (sided-of (e .pre .1 .0) (e .pre .1 .1 .0))
 
 right-first-turn-requires-2 : (t : ℕ) → right-first-lts.Need-turn-requires-2 (right-first-calls t) (right-first-at t) right-first.Post
 right-first-turn-requires-2 t c κs =
-    let e = c .before .before .before .before .before .before .before .before .before .before .before in
-    let kp = c .before .before .before .before .before .before .before .turn .ensures .keeps in
+    let e = c .before .before .before .before .before .before .before .before .before .before .before .before .before in
+    let kp = c .before .before .before .before .before .before .before .before .turn .ensures .keeps in
     let h = stands-on (e .pre .1 .0) kp in
     let k = e .pre .1 .1 .0 in
-    (omega (arith, e .pre .0, left-less h k (c .left-of .ensures), way-kept (e .args .policy .now) (e .args .node) kp), left-stands h k (c .left-of .ensures))
+    (omega (arith, e .pre .0, left-less h k (c .before .left-of .ensures), way-kept (e .args .policy .now) (e .args .node) kp), left-stands h k (c .before .left-of .ensures))
 
 right-first-caught-requires : (t : ℕ) → right-first-lts.Need-caught-requires (right-first-calls t) (right-first-at t) right-first.Post
-right-first-caught-requires t c κs = low (c .before .before .before .before .before .before .before .before .before .before .before .before .before .pre .1 .0)
+right-first-caught-requires t c κs = low (c .before .before .before .before .before .before .before .before .before .before .before .before .before .before .before .pre .1 .0)
 
 right-first-returns-3 : (t : ℕ) → right-first-lts.Need-returns-3 (right-first-calls t) (right-first-at t) right-first.Post
 unfolding phaseOf
 right-first-returns-3 t c =
-    let e = c .before .before .before .before .before .before .before .before .before .before .before .before .before .before in
-    then-left-stopped (e .pre .1 .0) (e .pre .1 .1 .0) (e .pre .1 .1 .1) (c .before .before .before .before .before .before .before .before .before .before .turn .result) (c .before .before .before .before .before .before .before .before .before .before .before .right-of .ensures) (c .before .before .before .before .before .before .before .before .before .before .turn .ensures) (c .before .before .before .before .before .before .before .before .before .if1 .left) (sym (ap isRunning (c .before .before .before .before .before .before .before .joined-at .ensures)) ∙ sym (c .before .before .before .before .before .before .is-running .ensures) ∙ not-false _ (c .before .before .before .before .before .if2 .left)) (c .before .before .turn2 .result) (c .before .before .before .left-of .ensures) (c .before .before .turn2 .ensures) (c .before .if3 .taken) (c .caught .result) (c .caught .ensures)
+    let e = c .before .before .before .before .before .before .before .before .before .before .before .before .before .before .before .before in
+    then-left-stopped (e .pre .1 .0) (e .pre .1 .1 .0) (e .pre .1 .1 .1) (c .before .before .before .before .before .before .before .before .before .before .before .turn .result) (c .before .before .before .before .before .before .before .before .before .before .before .before .before .right-of .ensures) (c .before .before .before .before .before .before .before .before .before .before .before .turn .ensures) (c .before .before .before .before .before .before .before .before .before .before .if1 .left) (sym (ap isRunning (c .before .before .before .before .before .before .before .before .joined-at .ensures)) ∙ sym (c .before .before .before .before .before .before .before .is-running .ensures) ∙ not-false _ (c .before .before .before .before .before .before .if2 .left)) (c .before .before .turn2 .result) (c .before .before .before .before .left-of .ensures) (c .before .before .turn2 .ensures) (c .before .if3 .taken) (c .caught .result) (c .caught .ensures)
 
 right-first-seq-end-requires-2 : (t : ℕ) → right-first-lts.Need-seq-end-requires-2 (right-first-calls t) (right-first-at t) right-first.Post
 right-first-seq-end-requires-2 t c κs =
-    let e = c .before .before .before .before .before .before .before .before .before .before .before .before .before .before in
-    ((sided-of (e .pre .1 .0) (e .pre .1 .1 .0), c .before .before .turn2 .ensures .keeps .sized ∙ c .before .before .before .before .before .before .before .before .before .before .turn .ensures .keeps .sized ∙ e .pre .1 .0 .sized), c .before .if3 .left)
+    let e = c .before .before .before .before .before .before .before .before .before .before .before .before .before .before .before .before in
+    ((sided-of (e .pre .1 .0) (e .pre .1 .1 .0), c .before .before .turn2 .ensures .keeps .sized ∙ c .before .before .before .before .before .before .before .before .before .before .before .turn .ensures .keeps .sized ∙ e .pre .1 .0 .sized), c .before .if3 .left)
 
 right-first-returns-4 : (t : ℕ) → right-first-lts.Need-returns-4 (right-first-calls t) (right-first-at t) right-first.Post
 unfolding phaseOf
 right-first-returns-4 t c =
-    let e = c .before .before .before .before .before .before .before .before .before .before .before .before .before .before .before in
-    then-left-ends (e .pre .1 .0) (e .pre .1 .1 .0) (e .pre .1 .1 .1) (c .before .before .before .before .before .before .before .before .before .before .before .turn .result) (c .before .before .before .before .before .before .before .before .before .before .before .before .right-of .ensures) (c .before .before .before .before .before .before .before .before .before .before .before .turn .ensures) (c .before .before .before .before .before .before .before .before .before .before .if1 .left) (sym (ap isRunning (c .before .before .before .before .before .before .before .before .joined-at .ensures)) ∙ sym (c .before .before .before .before .before .before .before .is-running .ensures) ∙ not-false _ (c .before .before .before .before .before .before .if2 .left)) (c .before .before .before .turn2 .result) (c .before .before .before .before .left-of .ensures) (c .before .before .before .turn2 .ensures) (c .before .before .if3 .left) (c .seq-end2 .result) (c .seq-end2 .ensures)
+    let e = c .before .before .before .before .before .before .before .before .before .before .before .before .before .before .before .before .before in
+    then-left-ends (e .pre .1 .0) (e .pre .1 .1 .0) (e .pre .1 .1 .1) (c .before .before .before .before .before .before .before .before .before .before .before .before .turn .result) (c .before .before .before .before .before .before .before .before .before .before .before .before .before .before .right-of .ensures) (c .before .before .before .before .before .before .before .before .before .before .before .before .turn .ensures) (c .before .before .before .before .before .before .before .before .before .before .before .if1 .left) (sym (ap isRunning (c .before .before .before .before .before .before .before .before .before .joined-at .ensures)) ∙ sym (c .before .before .before .before .before .before .before .before .is-running .ensures) ∙ not-false _ (c .before .before .before .before .before .before .before .if2 .left)) (c .before .before .before .turn2 .result) (c .before .before .before .before .before .left-of .ensures) (c .before .before .before .turn2 .ensures) (c .before .before .if3 .left) (c .seq-end2 .result) (c .seq-end2 .ensures)
 
 abbrev rise-Inv-loop : rise-lts.InvT-loop
-rise-Inv-loop policy mem₀ node b fed₀ at₀ mem fed at = Climbed policy b mem₀ mem node at (fed .bits)
+rise-Inv-loop policy mem₀ node b counts₀ counting fed₀ at₀ mem counts fed at = Climbed counting policy counts₀ counts b mem₀ mem node at (fed .bits)
 
 abbrev rise-μ-loop : rise-lts.MeasureT-loop
-rise-μ-loop policy mem₀ node b fed₀ at₀ mem fed at = at
+rise-μ-loop policy mem₀ node b counts₀ counting fed₀ at₀ mem counts fed at = at
 
 rise-loop-holds : (t : ℕ) → rise-lts.Need-loop-holds (rise-calls t) (rise-at t) rise.Post rise-Inv-loop rise-μ-loop
 unfolding EMPTY
@@ -567,7 +568,7 @@ rise-returns t c =
     let e = c .before .before .before .before .before .before .before in
     record {
       stops = λ l. absurd (omega (arith, l));
-      over = λ g. subst (λ (ws : Words). Owing (pathAt (e .args .policy .now) (e .args .mem .now) (e .args .node)) (e .args .b) (e .args .mem .now) ws (e .args .node) (c .before .before .before .before .before .loop .at) (c .before .before .before .before .before .loop .fed .bits)) (sym (c .let-out .ensures)) (lets-it-out (e .pre .1) (c .before .before .before .before .before .loop .inv) (found-none _ _ _ _ _ (c .before .before .if1 .taken) (c .before .before .before .taker .ensures .1)) (omega arith));
+      over = λ g. subst (λ (ws : Words). Owing (e .args .counting) (e .args .policy .now) (e .args .counts .now) (c .before .before .before .before .before .loop .counts) (pathAt (e .args .policy .now) (e .args .mem .now) (e .args .node)) (e .args .b) (e .args .mem .now) ws (e .args .node) (c .before .before .before .before .before .loop .at) (c .before .before .before .before .before .loop .fed .bits)) (sym (c .let-out .ensures)) (lets-it-out (e .pre .1) (c .before .before .before .before .before .loop .inv) (found-none _ _ _ _ _ (c .before .before .if1 .taken) (c .before .before .before .taker .ensures .1)) (omega arith));
     }
 
 rise-right-of-requires : (t : ℕ) → rise-lts.Need-right-of-requires (rise-calls t) (rise-at t) rise.Post rise-Inv-loop rise-μ-loop
@@ -578,52 +579,52 @@ rise-right-of-requires t c κs =
 
 rise-asked-turn-requires : (t : ℕ) → rise-lts.Need-asked-turn-requires (rise-calls t) (rise-at t) rise.Post rise-Inv-loop rise-μ-loop
 rise-asked-turn-requires t c κs =
-    let e = c .before .before .before .before .before .before .before in
-    let f = found-some _ _ _ _ _ (c .before .before .if1 .left) (c .before .before .before .taker .ensures .0) (c .before .before .before .taker .ensures .1) in
-    let h = taker-stands (e .pre .1) (c .before .before .before .before .before .loop .inv) (f .0) (f .1) (f .2 .0) in
-    let k = taker-pair (e .pre .1) (c .before .before .before .before .before .loop .inv) (f .0) (f .1) (f .2 .0) in
-    (omega (arith, e .pre .0, right-weight h k (c .right-of .ensures), taker-less (e .pre .1) (c .before .before .before .before .before .loop .inv) (f .0) (f .1) (f .2 .0)), (right-stands h k (c .right-of .ensures), taker-asked (e .pre .1) (c .before .before .before .before .before .loop .inv) (f .0) (f .1) (f .2 .0) (f .2 .1) (c .right-of .ensures)))
+    let e = c .before .before .before .before .before .before .before .before in
+    let f = found-some _ _ _ _ _ (c .before .before .before .if1 .left) (c .before .before .before .before .taker .ensures .0) (c .before .before .before .before .taker .ensures .1) in
+    let h = taker-stands (e .pre .1) (c .before .before .before .before .before .before .loop .inv) (f .0) (f .1) (f .2 .0) in
+    let k = taker-pair (e .pre .1) (c .before .before .before .before .before .before .loop .inv) (f .0) (f .1) (f .2 .0) in
+    (omega (arith, e .pre .0, right-weight h k (c .before .right-of .ensures), taker-less (e .pre .1) (c .before .before .before .before .before .before .loop .inv) (f .0) (f .1) (f .2 .0)), (right-stands h k (c .before .right-of .ensures), taker-asked (e .pre .1) (c .before .before .before .before .before .before .loop .inv) (f .0) (f .1) (f .2 .0) (f .2 .1) (c .before .right-of .ensures)))
 
 rise-returns-2 : (t : ℕ) → rise-lts.Need-returns-2 (rise-calls t) (rise-at t) rise.Post rise-Inv-loop rise-μ-loop
-rise-returns-2 t c = let f = found-some _ _ _ _ _ (c .before .before .before .before .if1 .left) (c .before .before .before .before .before .taker .ensures .0) (c .before .before .before .before .before .taker .ensures .1) in
+rise-returns-2 t c = let f = found-some _ _ _ _ _ (c .before .before .before .before .before .if1 .left) (c .before .before .before .before .before .before .taker .ensures .0) (c .before .before .before .before .before .before .taker .ensures .1) in
     record {
-      stops = λ l. taken-stopped (c .before .before .before .before .before .before .before .before .before .pre .1) (c .before .before .before .before .before .before .before .loop .inv) (f .0) (f .1) (f .2 .0) (c .before .asked-turn .result) (f .2 .1) (c .before .before .right-of .ensures) (c .before .asked-turn .ensures) (c .if2 .taken);
+      stops = λ l. taken-stopped (c .before .before .before .before .before .before .before .before .before .before .pre .1) (c .before .before .before .before .before .before .before .before .loop .inv) (f .0) (f .1) (f .2 .0) (c .before .asked-turn .result) (f .2 .1) (c .before .before .before .right-of .ensures) (c .before .asked-turn .ensures) (c .if2 .taken);
       over = λ g. absurd (omega (arith, g, c .if2 .taken));
     }
 
 rise-cast-single : (t : ℕ) → rise-lts.Need-cast-single (rise-calls t) (rise-at t) rise.Post rise-Inv-loop rise-μ-loop
-rise-cast-single t c = let f = found-some _ _ _ _ _ (c .before .before .before .before .if1 .left) (c .before .before .before .before .before .taker .ensures .0) (c .before .before .before .before .before .taker .ensures .1) in
-    omega (arith, f .2 .0, c .before .before .before .before .before .before .before .loop .inv .below, low (c .before .before .before .before .before .before .before .before .before .pre .1))
+rise-cast-single t c = let f = found-some _ _ _ _ _ (c .before .before .before .before .before .if1 .left) (c .before .before .before .before .before .before .taker .ensures .0) (c .before .before .before .before .before .before .taker .ensures .1) in
+    omega (arith, f .2 .0, c .before .before .before .before .before .before .before .before .loop .inv .below, low (c .before .before .before .before .before .before .before .before .before .before .pre .1))
 
 rise-lets-on-requires : (t : ℕ) → rise-lts.Need-lets-on-requires (rise-calls t) (rise-at t) rise.Post rise-Inv-loop rise-μ-loop
 rise-lets-on-requires t c κs =
-    let e = c .before .before .before .before .before .before .before .before .before .before .before .before in
-    let f = found-some _ _ _ _ _ (c .before .before .before .before .before .before .before .if1 .left) (c .before .before .before .before .before .before .before .before .taker .ensures .0) (c .before .before .before .before .before .before .before .before .taker .ensures .1) in
-    sided-of (taker-stands (e .pre .1) (c .before .before .before .before .before .before .before .before .before .before .loop .inv) (f .0) (f .1) (f .2 .0)) (taker-pair (e .pre .1) (c .before .before .before .before .before .before .before .before .before .before .loop .inv) (f .0) (f .1) (f .2 .0))
+    let e = c .before .before .before .before .before .before .before .before .before .before .before .before .before in
+    let f = found-some _ _ _ _ _ (c .before .before .before .before .before .before .before .before .if1 .left) (c .before .before .before .before .before .before .before .before .before .taker .ensures .0) (c .before .before .before .before .before .before .before .before .before .taker .ensures .1) in
+    sided-of (taker-stands (e .pre .1) (c .before .before .before .before .before .before .before .before .before .before .before .loop .inv) (f .0) (f .1) (f .2 .0)) (taker-pair (e .pre .1) (c .before .before .before .before .before .before .before .before .before .before .before .loop .inv) (f .0) (f .1) (f .2 .0))
 
 rise-returns-3 : (t : ℕ) → rise-lts.Need-returns-3 (rise-calls t) (rise-at t) rise.Post rise-Inv-loop rise-μ-loop
-rise-returns-3 t c = let f = found-some _ _ _ _ _ (c .before .before .before .before .before .before .before .before .before .if1 .left) (c .before .before .before .before .before .before .before .before .before .before .taker .ensures .0) (c .before .before .before .before .before .before .before .before .before .before .taker .ensures .1) in
+rise-returns-3 t c = let f = found-some _ _ _ _ _ (c .before .before .before .before .before .before .before .before .before .before .if1 .left) (c .before .before .before .before .before .before .before .before .before .before .before .taker .ensures .0) (c .before .before .before .before .before .before .before .before .before .before .before .taker .ensures .1) in
     record {
       stops = λ l. absurd (omega (arith, l));
-      over = λ g. stays-there (c .before .before .before .before .before .before .before .before .before .before .before .before .before .before .pre .1) (c .before .before .before .before .before .before .before .before .before .before .before .before .loop .inv) (f .0) (f .1) (f .2 .0) (c .before .before .before .before .before .before .asked-turn .result) (f .2 .1) (c .before .before .before .before .before .before .before .right-of .ensures) (c .before .before .before .before .before .before .asked-turn .ensures) (c .before .before .before .before .before .if2 .left) (sym (c .before .lets-on .ensures) ∙ not-true _ (c .if3 .taken)) _ (c .before .before .before .union .ensures ∙ ap (union (c .before .before .before .before .before .before .before .before .before .before .before .before .loop .fed .bits)) (c .before .before .before .before .single .ensures));
+      over = λ g. stays-there (c .before .before .before .before .before .before .before .before .before .before .before .before .before .before .before .pre .1) (c .before .before .before .before .before .before .before .before .before .before .before .before .before .loop .inv) (f .0) (f .1) (f .2 .0) (c .before .before .before .before .before .before .asked-turn .result) (f .2 .1) (c .before .before .before .before .before .before .before .before .right-of .ensures) (c .before .before .before .before .before .before .asked-turn .ensures) (c .before .before .before .before .before .if2 .left) (sym (c .before .lets-on .ensures) ∙ not-true _ (c .if3 .taken)) _ (c .before .before .before .union .ensures ∙ ap (union (c .before .before .before .before .before .before .before .before .before .before .before .before .before .loop .fed .bits)) (c .before .before .before .before .single .ensures));
     }
 
 rise-loop-less : (t : ℕ) → rise-lts.Need-loop-less (rise-calls t) (rise-at t) rise.Post rise-Inv-loop rise-μ-loop
-rise-loop-less t c = let f = found-some _ _ _ _ _ (c .before .before .before .before .before .before .before .before .before .if1 .left) (c .before .before .before .before .before .before .before .before .before .before .taker .ensures .0) (c .before .before .before .before .before .before .before .before .before .before .taker .ensures .1) in f .2 .0
+rise-loop-less t c = let f = found-some _ _ _ _ _ (c .before .before .before .before .before .before .before .before .before .before .if1 .left) (c .before .before .before .before .before .before .before .before .before .before .before .taker .ensures .0) (c .before .before .before .before .before .before .before .before .before .before .before .taker .ensures .1) in f .2 .0
 
 rise-loop-again : (t : ℕ) → rise-lts.Need-loop-again (rise-calls t) (rise-at t) rise.Post rise-Inv-loop rise-μ-loop
-rise-loop-again t c = let f = found-some _ _ _ _ _ (c .before .before .before .before .before .before .before .before .before .if1 .left) (c .before .before .before .before .before .before .before .before .before .before .taker .ensures .0) (c .before .before .before .before .before .before .before .before .before .before .taker .ensures .1) in
-    goes-further (c .before .before .before .before .before .before .before .before .before .before .before .before .before .before .pre .1) (c .before .before .before .before .before .before .before .before .before .before .before .before .loop .inv) (f .0) (f .1) (f .2 .0) (c .before .before .before .before .before .before .asked-turn .result) (f .2 .1) (c .before .before .before .before .before .before .before .right-of .ensures) (c .before .before .before .before .before .before .asked-turn .ensures) (c .before .before .before .before .before .if2 .left) (sym (c .before .lets-on .ensures) ∙ not-false _ (c .if3 .left)) _ (c .before .before .before .union .ensures ∙ ap (union (c .before .before .before .before .before .before .before .before .before .before .before .before .loop .fed .bits)) (c .before .before .before .before .single .ensures))
+rise-loop-again t c = let f = found-some _ _ _ _ _ (c .before .before .before .before .before .before .before .before .before .before .if1 .left) (c .before .before .before .before .before .before .before .before .before .before .before .taker .ensures .0) (c .before .before .before .before .before .before .before .before .before .before .before .taker .ensures .1) in
+    goes-further (c .before .before .before .before .before .before .before .before .before .before .before .before .before .before .before .pre .1) (c .before .before .before .before .before .before .before .before .before .before .before .before .before .loop .inv) (f .0) (f .1) (f .2 .0) (c .before .before .before .before .before .before .asked-turn .result) (f .2 .1) (c .before .before .before .before .before .before .before .before .right-of .ensures) (c .before .before .before .before .before .before .asked-turn .ensures) (c .before .before .before .before .before .if2 .left) (sym (c .before .lets-on .ensures) ∙ not-false _ (c .if3 .left)) _ (c .before .before .before .union .ensures ∙ ap (union (c .before .before .before .before .before .before .before .before .before .before .before .before .before .loop .fed .bits)) (c .before .before .before .before .single .ensures))
 
 sequential-right-first-requires : (t : ℕ) → sequential-lts.Need-right-first-requires (sequential-calls t) (sequential-at t) sequential.Post
 sequential-right-first-requires t c κs =
-    let e = c .before .before .before in
-    (omega (arith, e .pre .0), (e .pre .1 .0, (e .pre .1 .1 .0, subst (λ (ph : Phase). Asked (e .args .policy .now) (e .args .mem .now) (e .args .node) ph) (phase-after _ (c .before .if1 .taken)) (e .pre .1 .1 .1))))
+    let e = c .before .before .before .before in
+    (omega (arith, e .pre .0), (e .pre .1 .0, (e .pre .1 .1 .0, subst (λ (ph : Phase). Asked (e .args .policy .now) (e .args .mem .now) (e .args .node) ph) (phase-after _ (c .before .before .if1 .taken)) (e .pre .1 .1 .1))))
 
 sequential-returns : (t : ℕ) → sequential-lts.Need-returns (sequential-calls t) (sequential-at t) sequential.Post
 sequential-returns t c =
-    let e = c .before .before .before .before in
-    phase-turn (e .pre .1 .0) (e .pre .1 .1 .0) (c .right-first .result) (sym (phase-after _ (c .before .before .if1 .taken))) (c .right-first .ensures)
+    let e = c .before .before .before .before .before in
+    phase-turn (e .pre .1 .0) (e .pre .1 .1 .0) (c .right-first .result) (sym (phase-after _ (c .before .before .before .if1 .taken))) (c .right-first .ensures)
 
 sequential-left-of-requires : (t : ℕ) → sequential-lts.Need-left-of-requires (sequential-calls t) (sequential-at t) sequential.Post
 sequential-left-of-requires t c κs =
@@ -632,29 +633,29 @@ sequential-left-of-requires t c κs =
 
 sequential-turn-requires : (t : ℕ) → sequential-lts.Need-turn-requires (sequential-calls t) (sequential-at t) sequential.Post
 sequential-turn-requires t c κs =
-    let e = c .before .before .before .before in
+    let e = c .before .before .before .before .before in
     let h = e .pre .1 .0 in
     let k = e .pre .1 .1 .0 in
-    (omega (arith, e .pre .0, left-less h k (c .left-of .ensures)), left-stands h k (c .left-of .ensures))
+    (omega (arith, e .pre .0, left-less h k (c .before .left-of .ensures)), left-stands h k (c .before .left-of .ensures))
 
 sequential-caught-requires : (t : ℕ) → sequential-lts.Need-caught-requires (sequential-calls t) (sequential-at t) sequential.Post
-sequential-caught-requires t c κs = omega (arith, low (c .before .before .before .before .before .before .pre .1 .0))
+sequential-caught-requires t c κs = omega (arith, low (c .before .before .before .before .before .before .before .pre .1 .0))
 
 sequential-returns-2 : (t : ℕ) → sequential-lts.Need-returns-2 (sequential-calls t) (sequential-at t) sequential.Post
 sequential-returns-2 t c =
-    let e = c .before .before .before .before .before .before .before in
-    first-stopped (e .pre .1 .0) (e .pre .1 .1 .0) (e .args .phase) (c .before .before .before .before .before .if1 .left) (e .pre .1 .1 .1) (c .before .before .turn .result) (c .before .before .before .left-of .ensures) (c .before .before .turn .ensures) (c .before .if2 .taken) (c .caught .result) (c .caught .ensures)
+    let e = c .before .before .before .before .before .before .before .before in
+    first-stopped (e .pre .1 .0) (e .pre .1 .1 .0) (e .args .phase) (c .before .before .before .before .before .before .if1 .left) (e .pre .1 .1 .1) (c .before .before .turn .result) (c .before .before .before .before .left-of .ensures) (c .before .before .turn .ensures) (c .before .if2 .taken) (c .caught .result) (c .caught .ensures)
 
 sequential-after-left-requires : (t : ℕ) → sequential-lts.Need-after-left-requires (sequential-calls t) (sequential-at t) sequential.Post
 sequential-after-left-requires t c κs =
-    let e = c .before .before .before .before .before .before .before in
-    let kp = c .before .before .turn .ensures .keeps in
-    (omega (arith, e .pre .0, way-kept (e .args .policy .now) (e .args .node) kp), (stands-on (e .pre .1 .0) kp, (e .pre .1 .1 .0, (c .before .if2 .left, c .before .before .before .before .before .if1 .left))))
+    let e = c .before .before .before .before .before .before .before .before .before in
+    let kp = c .before .before .before .turn .ensures .keeps in
+    (omega (arith, e .pre .0, way-kept (e .args .policy .now) (e .args .node) kp), (stands-on (e .pre .1 .0) kp, (e .pre .1 .1 .0, (c .before .before .if2 .left, c .before .before .before .before .before .before .before .if1 .left))))
 
 sequential-returns-3 : (t : ℕ) → sequential-lts.Need-returns-3 (sequential-calls t) (sequential-at t) sequential.Post
 sequential-returns-3 t c =
-    let e = c .before .before .before .before .before .before .before .before in
-    first-then (e .pre .1 .0) (e .pre .1 .1 .0) (e .args .phase) (c .before .before .before .before .before .before .if1 .left) (e .pre .1 .1 .1) (c .before .before .before .turn .result) (c .before .before .before .before .left-of .ensures) (c .before .before .before .turn .ensures) (c .before .before .if2 .left) (c .after-left .result) (c .after-left .ensures)
+    let e = c .before .before .before .before .before .before .before .before .before .before in
+    first-then (e .pre .1 .0) (e .pre .1 .1 .0) (e .args .phase) (c .before .before .before .before .before .before .before .before .if1 .left) (e .pre .1 .1 .1) (c .before .before .before .before .turn .result) (c .before .before .before .before .before .before .left-of .ensures) (c .before .before .before .before .turn .ensures) (c .before .before .before .if2 .left) (c .after-left .result) (c .after-left .ensures)
 
 settle-insert-right-of-requires : (t : ℕ) → settle-insert-lts.Need-right-of-requires (settle-insert-calls t) (settle-insert-at t) settle-insert.Post
 settle-insert-right-of-requires t c κs =
@@ -663,48 +664,48 @@ settle-insert-right-of-requires t c κs =
 
 settle-insert-turn-requires : (t : ℕ) → settle-insert-lts.Need-turn-requires (settle-insert-calls t) (settle-insert-at t) settle-insert.Post
 settle-insert-turn-requires t c κs =
-    let e = c .before .before .before in
+    let e = c .before .before .before .before in
     let h = e .pre .1 .0 in
     let k = e .pre .1 .1 in
-    (omega (arith, e .pre .0, right-weight h k (c .right-of .ensures)), right-stands h k (c .right-of .ensures))
+    (omega (arith, e .pre .0, right-weight h k (c .before .right-of .ensures)), right-stands h k (c .before .right-of .ensures))
 
 settle-insert-returns : (t : ℕ) → settle-insert-lts.Need-returns (settle-insert-calls t) (settle-insert-at t) settle-insert.Post
 unfolding phaseOf
 settle-insert-returns t c =
-    let e = c .before .before .before .before .before in
-    settles-stopped (e .pre .1 .0) (e .pre .1 .1) (c .before .turn .result) (c .before .before .right-of .ensures) (c .before .turn .ensures) (c .if1 .taken)
+    let e = c .before .before .before .before .before .before in
+    settles-stopped (e .pre .1 .0) (e .pre .1 .1) (c .before .turn .result) (c .before .before .before .right-of .ensures) (c .before .turn .ensures) (c .if1 .taken)
 
 settle-insert-reread-requires : (t : ℕ) → settle-insert-lts.Need-reread-requires (settle-insert-calls t) (settle-insert-at t) settle-insert.Post
 settle-insert-reread-requires t c κs =
-    let e = c .before .before .before .before .before .before in
+    let e = c .before .before .before .before .before .before .before in
     (sided-of (e .pre .1 .0) (e .pre .1 .1), c .before .before .turn .ensures .keeps .sized ∙ e .pre .1 .0 .sized)
 
 settle-insert-returns-2 : (t : ℕ) → settle-insert-lts.Need-returns-2 (settle-insert-calls t) (settle-insert-at t) settle-insert.Post
 unfolding phaseOf
 settle-insert-returns-2 t c =
-    let e = c .before .before .before .before .before .before .before in
-    settles-read (e .pre .1 .0) (e .pre .1 .1) (c .before .before .before .turn .result) (c .before .before .before .before .right-of .ensures) (c .before .before .before .turn .ensures) (c .before .before .if1 .left) (c .reread .result) (c .reread .ensures)
+    let e = c .before .before .before .before .before .before .before .before in
+    settles-read (e .pre .1 .0) (e .pre .1 .1) (c .before .before .before .turn .result) (c .before .before .before .before .before .right-of .ensures) (c .before .before .before .turn .ensures) (c .before .before .if1 .left) (c .reread .result) (c .reread .ensures)
 
 abbrev sink-Inv-loop : sink-lts.InvT-loop
-sink-Inv-loop policy mem₀ top node fed at₀ mem at = Keeps mem₀ mem × ((top ≤ at) × ((ws : Words) (b : Action) → Owing (pathAt policy mem₀ node) b ws mem₀ node top (fed .bits) → Owing (pathAt policy mem₀ node) b ws mem node at (fed .bits)))
+sink-Inv-loop policy mem₀ top node fed counts₀ counting at₀ mem counts at = Keeps mem₀ mem × ((top ≤ at) × ((ws : Words) (cs : List ℕ) (b : Action) → Owing counting policy cs counts₀ (pathAt policy mem₀ node) b ws mem₀ node top (fed .bits) → Owing counting policy cs counts (pathAt policy mem₀ node) b ws mem node at (fed .bits)))
 
 abbrev sink-μ-loop : sink-lts.MeasureT-loop
-sink-μ-loop policy mem₀ top node fed at₀ mem at = node - at
+sink-μ-loop policy mem₀ top node fed counts₀ counting at₀ mem counts at = node - at
 
 sink-loop-holds : (t : ℕ) → sink-lts.Need-loop-holds (sink-calls t) (sink-at t) sink.Post sink-Inv-loop sink-μ-loop
-sink-loop-holds t c = (keeps-none, (omega arith, λ ws b o. o))
+sink-loop-holds t c = (keeps-none, (omega arith, λ ws cs b o. o))
 
 sink-cast-has : (t : ℕ) → sink-lts.Need-cast-has (sink-calls t) (sink-at t) sink.Post sink-Inv-loop sink-μ-loop
 sink-cast-has t c = omega (arith, c .loop-test .taken, low (c .before .before .before .pre .1 .0))
 
 sink-settle-insert-requires : (t : ℕ) → sink-lts.Need-settle-insert-requires (sink-calls t) (sink-at t) sink.Post sink-Inv-loop sink-μ-loop
 sink-settle-insert-requires t c κs =
-    let e = c .before .before .before .before .before .before in
-    let f = feeds-on (c .before .before .before .before .loop .inv .0) (e .pre .1 .1 (c .before .before .before .before .loop .at) (c .before .before .before .before .loop .inv .1 .0) (c .before .before .before .loop-test .taken) (sym (c .before .before .has .ensures) ∙ c .before .if1 .taken)) in
-    (omega (arith, e .pre .0, f .fewer, way-kept (e .args .policy .now) (e .args .node) (c .before .before .before .before .loop .inv .0)), (f .stands, f .pair))
+    let e = c .before .before .before .before .before .before .before in
+    let f = feeds-on (c .before .before .before .before .before .loop .inv .0) (e .pre .1 .1 (c .before .before .before .before .before .loop .at) (c .before .before .before .before .before .loop .inv .1 .0) (c .before .before .before .before .loop-test .taken) (sym (c .before .before .before .has .ensures) ∙ c .before .before .if1 .taken)) in
+    (omega (arith, e .pre .0, f .fewer, way-kept (e .args .policy .now) (e .args .node) (c .before .before .before .before .before .loop .inv .0)), (f .stands, f .pair))
 
 sink-returns : (t : ℕ) → sink-lts.Need-returns (sink-calls t) (sink-at t) sink.Post sink-Inv-loop sink-μ-loop
-sink-returns t c = λ ws b o. settles-stop (c .before .before .before .before .before .before .before .before .pre .1 .0) (c .before .before .before .before .before .before .loop .inv .0) (c .before .before .before .before .before .before .loop .inv .1 .1 ws b o) (sym (c .before .before .before .before .has .ensures) ∙ c .before .before .before .if1 .taken) (c .before .settle-insert .result) (c .before .settle-insert .ensures) (c .if2 .taken)
+sink-returns t c = λ ws cs b o. settles-stop (c .before .before .before .before .before .before .before .before .before .pre .1 .0) (c .before .before .before .before .before .before .before .loop .inv .0) (c .before .before .before .before .before .before .before .loop .inv .1 .1 ws cs b o) (sym (c .before .before .before .before .before .has .ensures) ∙ c .before .before .before .before .if1 .taken) (c .before .settle-insert .result) (c .before .settle-insert .ensures) (c .if2 .taken)
 
 sink-add-at : (t : ℕ) → sink-lts.Need-add-at (sink-calls t) (sink-at t) sink.Post sink-Inv-loop sink-μ-loop
 sink-add-at t c = omega (arith, c .before .before .loop-test .taken, low (c .before .before .before .before .before .pre .1 .0))
@@ -720,16 +721,16 @@ sink-loop-again t c =
     let args = e .args in
     ⊎-elim
     (λ z.
-    let s = z .2 .ensures in
-    subst (λ m. sink-Inv-loop (args .policy .now) (args .mem .now) (args .top) (args .node) (args .fed) (args .top) m (c .before .before .before .loop .at + 1)) (sym (z .4))
-    (keeps-then (inv .0) (s .keeps), (omega (arith, inv .1 .0), λ ws b o. settles-on h (inv .0) (inv .1 .1 ws b o) (sym (c .before .has .ensures) ∙ z .0 .taken) (z .2 .result) s (z .3 .left))))
+    let s = z .3 .ensures in
+    subst₂ (λ m k. sink-Inv-loop (args .policy .now) (args .mem .now) (args .top) (args .node) (args .fed) (args .counts .now) (args .counting) (args .top) m k (c .before .before .before .loop .at + 1)) (sym (z .5)) (sym (z .6))
+    (keeps-then (inv .0) (s .keeps), (omega (arith, inv .1 .0), λ ws cs b o. settles-on h (inv .0) (inv .1 .1 ws cs b o) (sym (c .before .has .ensures) ∙ z .0 .taken) (z .3 .result) s (z .4 .left))))
     (λ z.
-    subst (λ m. sink-Inv-loop (args .policy .now) (args .mem .now) (args .top) (args .node) (args .fed) (args .top) m (c .before .before .before .loop .at + 1)) (sym (z .1))
-    (inv .0, (omega (arith, inv .1 .0), λ ws b o. passes-by h (inv .0) (inv .1 .1 ws b o) (sym (c .before .has .ensures) ∙ z .0 .left))))
+    subst₂ (λ m k. sink-Inv-loop (args .policy .now) (args .mem .now) (args .top) (args .node) (args .fed) (args .counts .now) (args .counting) (args .top) m k (c .before .before .before .loop .at + 1)) (sym (z .1)) (sym (z .2))
+    (inv .0, (omega (arith, inv .1 .0), λ ws cs b o. passes-by h (inv .0) (inv .1 .1 ws cs b o) (sym (c .before .has .ensures) ∙ z .0 .left))))
     (c .if1 .came)
 
 sink-returns-2 : (t : ℕ) → sink-lts.Need-returns-2 (sink-calls t) (sink-at t) sink.Post sink-Inv-loop sink-μ-loop
-sink-returns-2 t c = λ ws b o. all-settled (omega (arith, c .loop-test .left)) (c .before .loop .inv .1 .1 ws b o)
+sink-returns-2 t c = λ ws cs b o. all-settled (omega (arith, c .loop-test .left)) (c .before .loop .inv .1 .1 ws cs b o)
 
 turn-is-asked-requires : (t : ℕ) → turn-lts.Need-is-asked-requires (turn-calls t) (turn-at t) turn.Post
 turn-is-asked-requires t c κs = low (c .before .before .pre .1)
@@ -739,8 +740,8 @@ turn-returns t c = idle-turn (c .before .before .before .before .pre .1) _ (c .b
 
 turn-asked-turn-requires : (t : ℕ) → turn-lts.Need-asked-turn-requires (turn-calls t) (turn-at t) turn.Post
 turn-asked-turn-requires t c κs =
-    let e = c .before .before .before .before .before in
-    (omega (arith, e .pre .0), (e .pre .1, is-asked (e .pre .1) _ (c .before .before .is-asked .ensures) (not-false _ (c .before .if1 .left))))
+    let e = c .before .before .before .before .before .before in
+    (omega (arith, e .pre .0), (e .pre .1, is-asked (e .pre .1) _ (c .before .before .before .is-asked .ensures) (not-false _ (c .before .before .if1 .left))))
 
 turn-returns-2 : (t : ℕ) → turn-lts.Need-returns-2 (turn-calls t) (turn-at t) turn.Post
 turn-returns-2 t c = c .asked-turn .ensures

@@ -1,0 +1,4 @@
+pub mod Heard
+pub mod SmallLaws
+pub mod ShownLaws
+pub mod Worked

@@ -1,0 +1,3 @@
+pub mod Shown
+pub mod Meaning
+pub mod Worked

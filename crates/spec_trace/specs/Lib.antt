@@ -1,0 +1,5 @@
+pub mod Counts
+pub mod Tallies
+pub mod Traces
+pub mod Opened
+pub mod Worked

@@ -1,0 +1,3 @@
+mod LineLaws
+pub mod Lengths
+pub mod Unled

@@ -1,0 +1,7 @@
+pub mod EventLaws
+pub mod CarryLaws
+pub mod TailLaws
+pub mod RunLaws
+pub mod LoopLaws
+pub mod OpenLaws
+pub mod Apart
