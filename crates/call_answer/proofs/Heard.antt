@@ -12,7 +12,7 @@ use Rattle.laws_turns.proofs.Bounds.{answered-emits}
 use Rattle.laws_turns.proofs.Cells.{status-back}
 use Rattle.faults.specs.declared.Fault.{Fault}
 use Rattle.faults.specs.Meaning.{faultOf, faultValue}
-use Rattle.faults.proofs.Once.{same-meaning}
+use Rattle.faults.proofs.Once.{value-means}
 use Rattle.call_answer.specs.Replies.{spoken, Gave}
 use Rattle.call_answer.specs.declared.Answer.{Answer}
 use Rattle.call_answer.specs.declared.Answer.the-variants.{Answered, Refused}
@@ -28,7 +28,7 @@ heard (refuses m) n k e = let z : _≡_ {A = ℕ} 0 1 = cc in absurd (omega arit
 pub heard-refusal : (q : Reply) (f : Fault) → Refused f ≡ spoken q → q ≡ refuses (faultOf f)
 unfolding spoken
 heard-refusal (answers m s) f e = let z : _≡_ {A = ℕ} 0 1 = cc in absurd (omega arith)
-heard-refusal (refuses m) f e = let a : faultValue m ≡ f = cc in ap refuses (sym (same-meaning m) ∙ ap faultOf a)
+heard-refusal (refuses m) f e = let a : faultValue m ≡ f = cc in ap refuses (sym (value-means f m a))
 
 module _ (policy : Bytes) where
   -- what one request's call gave is what the same request's gave

@@ -1,5 +1,5 @@
 -- A value is the one that its meaning has, and a meaning that of its value.
-use mathlib.Core.Path.{_≡_, refl, ap}
+use mathlib.Core.Path.{_≡_, refl, sym, ap, _∙_}
 use Rattle.spec_policy.specs.Spots as spots
 use Rattle.faults.specs.declared.Fault.{Fault}
 use Rattle.faults.specs.declared.Spot.{Spot}
@@ -23,3 +23,6 @@ same-meant (spots.onRecord p) = refl
 pub same-meaning : (f : spots.Fault) → faultOf (faultValue f) ≡ f
 unfolding faultOf faultValue
 same-meaning f = ap (λ (s : spots.Spot). record { number = f .number; spot = s }) (same-meant (f .spot))
+
+pub value-means : (f : Fault) (g : spots.Fault) → faultValue g ≡ f → faultOf f ≡ g
+value-means f g e = ap faultOf (sym e) ∙ same-meaning g

@@ -1,5 +1,5 @@
 -- What the code's enum and struct stand for.
-use Prim.Native.Nat.{ℕ, _+_}
+use Prim.Native.Nat.{ℕ, _+_, _*_}
 use Rattle.spec_policy.specs.Spots as spots
 use Rattle.faults.specs.declared.Fault.{Fault}
 use Rattle.faults.specs.declared.Spot.{Spot}
@@ -26,3 +26,8 @@ faultValue f = record { number = f .number; spot = spotValue (f .spot) }
 unfoldable pub spotCode : spots.Spot → ℕ
 spotCode spots.nowhere = 0
 spotCode (spots.onRecord p) = p + 1
+
+-- A refusal as one word, which the libraries for C return: its number in the highest byte, and in the rest the record that breaks the rule, counted from 1;
+-- 0 where there is none.
+abbrev pub faultWord : spots.Fault → ℕ
+faultWord f = 16777216 * f .number + spotCode (f .spot)

@@ -3,7 +3,7 @@
 ghost use mathlib.Core.Path.{_≡_};
 ghost use Prim.Native.Nat.{_≤_, _<_};
 ghost use Rattle.spec_policy.specs.Spots.{bareFault, onRecord};
-ghost use Rattle.faults.specs.Meaning.{spotOf, faultOf, spotCode};
+ghost use Rattle.faults.specs.Meaning.{spotOf, faultOf, spotCode, faultWord};
 
 // Which record: a node's or a step's number. There is none where a rule is about the whole file, or about what comes with it.
 pub enum Spot {
@@ -47,4 +47,15 @@ pub fn spot_code(spot: Spot) -> u32
         Spot::Nowhere => 0,
         Spot::Record(p) => p as u32 + 1,
     }
+}
+
+// What one in the highest byte of a word counts.
+const HIGHEST_BYTE: u32 = 16777216;
+
+// A refusal as one word, which the libraries for C return.
+pub fn fault_word(fault: Fault) -> u32
+    ensures { λ r. ⌜ r ≡ faultWord (faultOf fault) ⌝ }
+{
+    let spot = fault.spot;
+    fault.number as u32 * HIGHEST_BYTE + spot_code(spot)
 }

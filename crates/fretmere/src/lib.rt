@@ -5,14 +5,12 @@ ghost use Rattle.spec_turns.specs.Entries.{Reply, opens, offers, closes};
 ghost use Rattle.call_answer.specs.Replies.{spoken};
 ghost use Rattle.spec_writer.specs.Writing as writing;
 ghost use Rattle.file_writer.specs.Replies as replies;
-ghost use Rattle.faults.specs.Meaning.{faultOf};
-ghost use Rattle.fretmere.specs.Words.{Says, refusalWord, Few, word, Gave, countWord, sizeWord, Produced};
+ghost use Rattle.fretmere.specs.Words.{Says, Few, word, Gave, countWord, sizeWord, Produced};
 use call_answer::Answer;
 use check_policy::Checked;
 use check_policy::check;
-use faults::Fault;
 use faults::bare_fault;
-use faults::spot_code;
+use faults::fault_word;
 use file_writer::Written;
 use file_writer::write;
 use guard::close;
@@ -20,14 +18,6 @@ use guard::offer;
 use guard::open;
 use turn_state::STATE_SIZE;
 use turn_state::saved_count;
-
-// A refusal in one word: its number in the highest byte, and in the rest which record it is about, counted from 1 so that 0 says none.
-fn refused(fault: Fault) -> u32
-    ensures { λ r. ⌜ r ≡ refusalWord (faultOf fault) ⌝ }
-{
-    let spot = fault.spot;
-    fault.number as u32 * 16777216 + spot_code(spot)
-}
 
 // Zero, and the two sets written; or a refusal, and nothing written.
 #[no_mangle]
@@ -41,7 +31,7 @@ pub extern "C" fn fretmere_check(policy: &[u8], regulated: &mut u64, effects: &m
             *effects = e.bits;
             0
         }
-        Checked::Refused(fault) => refused(fault),
+        Checked::Refused(fault) => fault_word(fault),
     }
 }
 
@@ -52,7 +42,7 @@ fn packed(answer: Answer) -> u32
 {
     match answer {
         Answer::Answered(events, status) => status as u32 * 65536 + events as u32,
-        Answer::Refused(fault) => refused(fault),
+        Answer::Refused(fault) => fault_word(fault),
     }
 }
 
@@ -89,7 +79,7 @@ pub extern "C" fn fretmere_running_leaves(state: &[u8]) -> u32
     ensures { λ r. ⌜ r ≡ countWord (now (state .entry)) ⌝ }
 {
     if state.len() != STATE_SIZE {
-        return refused(bare_fault(11));
+        return fault_word(bare_fault(11));
     }
     saved_count(state) as u32
 }
@@ -100,7 +90,7 @@ fn packed_size(written: Written) -> u32
 {
     match written {
         Written::Wrote(length) => length as u32,
-        Written::Refused(fault) => refused(fault),
+        Written::Refused(fault) => fault_word(fault),
     }
 }
 

@@ -27,7 +27,7 @@ use Rattle.spec_writer.specs.Writing.{holds, Reply, wrote, refuses, writes, wri
 use Rattle.spec_writer.specs.Lent.{lendable, Lent}
 use Rattle.faults.specs.declared.Fault as declared
 use Rattle.faults.specs.Meaning.{spotOf, faultOf, faultValue}
-use Rattle.faults.proofs.Once.{same-meaning}
+use Rattle.faults.proofs.Once.{value-means}
 use Rattle.file_writer.specs.Replies.{spoken, Gave}
 use Rattle.file_writer.specs.declared.Written.{Written}
 use Rattle.file_writer.specs.declared.Written.the-variants.{Wrote, Refused}
@@ -114,7 +114,7 @@ module _ (t ns ss out : Bytes) (r : Written) (bytes : Bytes) (g : Gave (writes n
   refused-is : (q : Reply) (f : declared.Fault) → Refused f ≡ spoken q → q ≡ refuses (faultOf f)
   unfolding spoken
   refused-is (wrote k) f e = let z : _≡_ {A = ℕ} 0 1 = cc in absurd (omega arith)
-  refused-is (refuses k) f e = let z : faultValue k ≡ f = cc in ap refuses (sym (same-meaning k) ∙ ap faultOf z)
+  refused-is (refuses k) f e = let z : faultValue k ≡ f = cc in ap refuses (sym (value-means f k z))
 
   long-enough : (n : ℕ) (bs : Bytes) → length (take n bs) ≡ n → n ≤ length bs
   long-enough n bs e = go (ltb (length bs) n) refl

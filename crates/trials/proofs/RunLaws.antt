@@ -12,7 +12,7 @@ use Rattle.spec_turns.specs.Status.{statusNumber}
 use Rattle.spec_trace.specs.Traces as runs
 use Rattle.faults.specs.declared.Fault.{Fault}
 use Rattle.faults.specs.Meaning.{faultOf, faultValue}
-use Rattle.faults.proofs.Once.{same-meaning}
+use Rattle.faults.proofs.Once.{value-means}
 use Rattle.trace_run.specs.Reports.{stopValue, reportValue, Told}
 use Rattle.trace_run.specs.declared.Stop.{Stop}
 use Rattle.trace_run.specs.declared.Stop.the-variants.{Unrefused, RefusedWith}
@@ -34,13 +34,13 @@ stop-none (runs.refusedWith g) e = let z : _≡_ {A = ℕ} 0 1 = cc in absurd (o
 pub stop-some : (f : Fault) (z : runs.Stop) → RefusedWith f ≡ stopValue z → faultOf f ≡ stopFault z
 unfolding stopValue stopFault
 stop-some f runs.unrefused e = let z : _≡_ {A = ℕ} 0 1 = cc in absurd (omega arith)
-stop-some f (runs.refusedWith g) e = let a : faultValue g ≡ f = cc in ap faultOf (sym a) ∙ same-meaning g
+stop-some f (runs.refusedWith g) e = let a : faultValue g ≡ f = cc in value-means f g a
 
 pub unopened-bytes : (f : Fault) (bs : Bytes) (x : runs.Report) → Unopened f ≡ reportValue x
     → bs ≡ refusalBytes (faultOf f) ++ (spell 4 0 ++ (spell 4 0 ++ (0 ∷ []))) → bs ≡ reportBytes x
 unfolding reportValue reportBytes
 unopened-bytes f bs (runs.unopened g) e h =
-    let a : faultValue g ≡ f = cc in h ∙ ap (λ (k : spots.Fault). refusalBytes k ++ (spell 4 0 ++ (spell 4 0 ++ (0 ∷ [])))) (ap faultOf (sym a) ∙ same-meaning g)
+    let a : faultValue g ≡ f = cc in h ∙ ap (λ (k : spots.Fault). refusalBytes k ++ (spell 4 0 ++ (spell 4 0 ++ (0 ∷ [])))) (value-means f g a)
 unopened-bytes f bs (runs.followed z j n s) e h = let z : _≡_ {A = ℕ} 0 1 = cc in absurd (omega arith)
 
 pub followed-bytes : (t : Stop) (j n k : ℕ) (f : Fault) (bs : Bytes) (x : runs.Report) → Followed t j n k ≡ reportValue x

@@ -21,7 +21,7 @@ returns c = let e = ap answered (sym (c .before .checked .given .1)) ∙ c .befo
 
 returns-2 : tie.Need-returns-2
 unfolding answered
-returns-2 c = let e = ap answered (sym (c .before .before .checked2 .given .1)) ∙ c .before .before .before .before .check .ensures in refused-says _ _ _ (c .refused .ensures) e
+returns-2 c = let e = ap answered (sym (c .before .before .checked2 .given .1)) ∙ c .before .before .before .before .check .ensures in refused-says _ _ _ (c .fault-word .ensures) e
 
 pub fretmere-check-spec : {M : Type 1} → statement M
 fretmere-check-spec =

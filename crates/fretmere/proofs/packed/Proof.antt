@@ -17,7 +17,7 @@ returns : tie.Need-returns
 returns c x e = answered-word _ _ x (sym (c .before .answer .given .1) ∙ e)
 
 returns-2 : tie.Need-returns-2
-returns-2 c x e = c .refused .ensures ∙ refused-word _ x (sym (c .before .before .answer2 .given .1) ∙ e)
+returns-2 c x e = c .fault-word .ensures ∙ refused-word _ x (sym (c .before .before .answer2 .given .1) ∙ e)
 
 pub packed-spec : {M : Type 1} → statement M
 packed-spec =

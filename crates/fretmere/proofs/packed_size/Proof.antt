@@ -9,7 +9,7 @@ returns : tie.Need-returns
 returns c x e = size-word _ x (sym (c .before .written .given .1) ∙ e)
 
 returns-2 : tie.Need-returns-2
-returns-2 c x e = c .refused .ensures ∙ refused-size _ x (sym (c .before .before .written2 .given .1) ∙ e)
+returns-2 c x e = c .fault-word .ensures ∙ refused-size _ x (sym (c .before .before .written2 .given .1) ∙ e)
 
 pub packed-size-spec : {M : Type 1} → statement M
 packed-size-spec =
