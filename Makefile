@@ -6,13 +6,14 @@ PREFIX = /usr/local
 DESTDIR =
 
 PROGRAMS = guardrun guardwrite guardtext guardcheck guardtrace
+LIBRARIES = fretmere fretmere_trace
 VERSION = $(shell sed -n 's/.*FRETMERE_VERSION "\(.*\)"/\1/p' include/fretmere.h)
 UNDER = $(DESTDIR)$(PREFIX)
 
 help:
 	@echo 'make sample SAMPLE=NAME     run a sample policy (samples/README.md); here $(SAMPLE)'
 	@echo 'make programs               prove and build $(PROGRAMS)'
-	@echo 'make library                prove the library for C; libfretmere.a, header and pkg-config file go to dist/'
+	@echo 'make library                prove the libraries for C; archives, headers and pkg-config files of $(LIBRARIES) go to dist/'
 	@echo 'make install PREFIX=DIR     the command fretmere, programs, library and documents; here $(PREFIX)'
 	@echo 'make test                   all tests but the proofs from nothing and the must-fail edits, which .ci/run has'
 	@echo 'make trials SEED=N COUNT=N  compare the guard with the second one on drawn calls'
@@ -27,14 +28,14 @@ sample:
 programs:
 	@tools/prove target/programs.log check $(PROGRAMS)
 
-# The archive is the one that rt made, byte for byte; VERSION beside it says which it is.
+# The archives are those that rt made, byte for byte; VERSION beside them says which they are.
 library:
-	@tools/prove target/library.log staticlib fretmere
+	@for name in $(LIBRARIES); do tools/prove target/library-$$name.log staticlib $$name || exit; done
 	@mkdir -p dist/include dist/lib/pkgconfig
-	@cp include/fretmere.h dist/include
-	@cp target/staticlib/libfretmere.a dist/lib
-	@sed 's|@PREFIX@|$${pcfiledir}/../..|; s|@VERSION@|$(VERSION)|' include/fretmere.pc.in >dist/lib/pkgconfig/fretmere.pc
-	@{ echo 'fretmere $(VERSION)'; echo "commit $$(git describe --always --dirty --abbrev=40 --exclude "*")"; echo "kit $$(rt version)"; (cd dist && sha256sum lib/libfretmere.a); } >dist/VERSION
+	@cp $(LIBRARIES:%=include/%.h) dist/include
+	@cp $(LIBRARIES:%=target/staticlib/lib%.a) dist/lib
+	@for name in $(LIBRARIES); do sed 's|@PREFIX@|$${pcfiledir}/../..|; s|@VERSION@|$(VERSION)|' include/$$name.pc.in >dist/lib/pkgconfig/$$name.pc; done
+	@{ echo 'fretmere $(VERSION)'; echo "commit $$(git describe --always --dirty --abbrev=40 --exclude "*")"; echo "kit $$(rt version)"; (cd dist && sha256sum $(LIBRARIES:%=lib/lib%.a)); } >dist/VERSION
 	@cat dist/VERSION
 
 install: programs library place
@@ -47,12 +48,12 @@ place:
 	@cp tools/fretmere $(UNDER)/share/fretmere
 	@cp tools/desk/*.py $(UNDER)/share/fretmere/desk
 	@ln -sf ../share/fretmere/fretmere $(UNDER)/bin/fretmere
-	@cp dist/include/fretmere.h $(UNDER)/include
-	@cp dist/lib/libfretmere.a $(UNDER)/lib
-	@sed 's|@PREFIX@|$(PREFIX)|; s|@VERSION@|$(VERSION)|' include/fretmere.pc.in >$(UNDER)/lib/pkgconfig/fretmere.pc
+	@cp $(LIBRARIES:%=dist/include/%.h) $(UNDER)/include
+	@cp $(LIBRARIES:%=dist/lib/lib%.a) $(UNDER)/lib
+	@for name in $(LIBRARIES); do sed 's|@PREFIX@|$(PREFIX)|; s|@VERSION@|$(VERSION)|' include/$$name.pc.in >$(UNDER)/lib/pkgconfig/$$name.pc; done
 	@cp README.md dist/VERSION docs/TEXT.md docs/FORMAT.md docs/POLICIES.md $(UNDER)/share/doc/fretmere
-	@cp examples/scan-loop.c $(UNDER)/share/doc/fretmere/examples
-	@echo 'installed in $(UNDER): bin/fretmere, lib/libfretmere.a, include/fretmere.h, share/doc/fretmere'
+	@cp examples/scan-loop.c examples/reached.c $(UNDER)/share/doc/fretmere/examples
+	@echo 'installed in $(UNDER): bin/fretmere; lib/lib*.a and include/*.h of $(LIBRARIES); share/doc/fretmere'
 
 test: programs
 	@python3 tests/stored.py check tests/under-kit target/bin/guardrun

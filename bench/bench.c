@@ -1,6 +1,7 @@
 /* bench.c: one kind of call of one guard on one policy, so many times: bench GUARD CALL POLICY COUNT [ACTION]. GUARD is ours or second,
- * CALL is check, open, offer, close or write, which writes the policy anew from its own records. Prints the answer, or, with COUNT 0, how much stack one call took. */
-#include "../include/fretmere.h"
+ * CALL is check, open, offer, close or write, which writes the policy anew from its own records; or run, which is one run over a trace of so many
+ * times the action. Prints the answer, or, with COUNT 0, how much stack one call took. */
+#include "../include/fretmere_trace.h"
 #include "../second/guard.h"
 
 #include <stdbool.h>
@@ -19,6 +20,28 @@ static const uint8_t *const nodes = policy + 6;
 static size_t nodes_length(void) { return 16u * policy[3]; }
 static size_t steps_length(void) { return length - 6 - nodes_length(); }
 
+/* For run: the trace, room for the events of any, and a tally each. */
+enum { TRACE_MOST = 64 };
+static uint8_t trace[TRACE_MOST], all_events[FRETMERE_EVENT_BYTES * (TRACE_MOST + 2)];
+static size_t trace_length = 1;
+static fretmere_tally tally;
+static guard_tally their_tally;
+
+static unsigned our_run(void)
+{
+    fretmere_run run = {0, 0, 0};
+
+    fretmere_trace(policy, length, trace, trace_length, state, sizeof state, all_events, sizeof all_events, &tally, &run);
+    return (unsigned)(run.status << 24 | run.events);
+}
+
+static unsigned their_run(void)
+{
+    const guard_traced run = guard_trace(policy, length, trace, trace_length, state, sizeof state, all_events, sizeof all_events, &their_tally);
+
+    return (unsigned)run.status << 24 | run.events;
+}
+
 static unsigned ours(char call, uint8_t action)
 {
     uint64_t regulated = 0, effects = 0;
@@ -32,6 +55,8 @@ static unsigned ours(char call, uint8_t action)
         return fretmere_offer(policy, length, state, sizeof state, events, sizeof events, action) & 0xFFFFFF;
     case 'r':
         return fretmere_write(nodes, nodes_length(), nodes + nodes_length(), steps_length(), written, sizeof written) & 0xFFFFFF;
+    case 'u':
+        return our_run();
     default:
         return fretmere_close(policy, length, state, sizeof state, events, sizeof events) & 0xFFFFFF;
     }
@@ -50,6 +75,8 @@ static unsigned second(char call, uint8_t action)
         return answer(guard_offer(policy, length, state, sizeof state, events, sizeof events, action));
     case 'r':
         return (unsigned)guard_write(nodes, nodes_length(), nodes + nodes_length(), steps_length(), written, sizeof written).length;
+    case 'u':
+        return their_run();
     default:
         return answer(guard_close(policy, length, state, sizeof state, events, sizeof events));
     }
@@ -89,10 +116,15 @@ int main(int words, char **word)
     const bool second_guard = word[1][0] == 's';
     const char call = word[2][1];
     const uint8_t action = words > 5 ? (uint8_t)atoi(word[5]) : 0;
-    const long count = atol(word[4]);
+    long count = atol(word[4]);
     unsigned last = 0;
 
     guard_open(policy, length, opened, sizeof opened, events, sizeof events);
+    memset(trace, action, sizeof trace);
+    if (call == 'u' && count > 0) {
+        trace_length = count < TRACE_MOST ? (size_t)count : TRACE_MOST;
+        count = 1;
+    }
     if (count == 0) {
         memcpy(state, opened, sizeof state);
         stack(true);

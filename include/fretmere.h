@@ -1,5 +1,5 @@
 /* fretmere.h: the guard as a library for C and C++. `make library` proves it and puts libfretmere.a, this header and a pkg-config file into
- * dist/; examples/scan-loop.c shows it in a scan cycle.
+ * dist/; examples/scan-loop.c shows it in a scan cycle. The run over a trace is a library of its own, fretmere_trace.h.
  *
  * A policy file, a saved state and an event buffer are plain bytes that the caller keeps. Any bytes may be given: every call answers,
  * or refuses by number, and a refusal writes nothing. docs/FORMAT.md has each of them byte by byte.
@@ -28,11 +28,11 @@
 extern "C" {
 #endif
 
-/* The version of this header and of the library that goes with it. The number in the policy file's third byte is another: the format's. */
+/* The version of this header, of fretmere_trace.h and of the libraries that go with them. The number in the policy file's third byte is another: the format's. */
 #define FRETMERE_VERSION_MAJOR 2
-#define FRETMERE_VERSION_MINOR 0
+#define FRETMERE_VERSION_MINOR 1
 #define FRETMERE_VERSION_PATCH 0
-#define FRETMERE_VERSION "2.0.0"
+#define FRETMERE_VERSION "2.1.0"
 
 #define FRETMERE_POLICY_MOST 6646 /* the length of the longest file that can pass the check */
 #define FRETMERE_STATE_BYTES 256  /* a state buffer has exactly this many bytes */
@@ -55,7 +55,7 @@ enum {
     FRETMERE_REFUSED_STATE = 12,       /* the state does not fit the policy */
     FRETMERE_REFUSED_ACTION = 13,      /* the action is above 63 */
     FRETMERE_REFUSED_HALTED = 14,      /* the policy has halted */
-    FRETMERE_REFUSED_ROOM = 15         /* the output is shorter than the file to be written */
+    FRETMERE_REFUSED_ROOM = 15         /* the output is shorter than the file to be written, or under 512 event bytes are left to a trace run */
 };
 
 /* The status of the root, which is node 0 and stands for the whole policy. */

@@ -1,6 +1,6 @@
-/* client.c: a C program over the library. It makes 01's small calls by the header's names, then those of a batch on standard input (as
+/* client.c: a C program over both libraries. It makes 01's small calls by the headers' names, then those of a batch on standard input (as
  * second/draw draws it, arbitrary bytes among them), each beside the second guard's, and watches the surroundings of every buffer. */
-#include "../include/fretmere.h"
+#include "../include/fretmere_trace.h"
 #include "../second/field.h"
 #include "../second/guard.h"
 
@@ -96,9 +96,83 @@ static void compare_write(unsigned long call)
     }
 }
 
-static unsigned long compare_batch(void)
+/* What a trace run writes besides its buffers, among marked bytes. */
+static struct {
+    uint8_t ahead[MARGIN];
+    fretmere_tally tally;
+    uint8_t between[MARGIN];
+    fretmere_run run;
+    uint8_t behind[MARGIN];
+} lent;
+
+static void set_tally(uint32_t start)
 {
-    unsigned long calls = 0;
+    memset(&lent, MARK, sizeof lent);
+    for (size_t i = 0; i < FRETMERE_STEPS_MOST; i++) {
+        lent.tally.steps[i] = start;
+    }
+    for (size_t a = 0; a < FRETMERE_ACTIONS; a++) {
+        lent.tally.accepted[a] = lent.tally.suppressed[a] = lent.tally.inserted[a] = start;
+    }
+}
+
+static bool all_marked(const uint8_t *bytes)
+{
+    for (size_t i = 0; i < MARGIN; i++) {
+        if (bytes[i] != MARK) {
+            return false;
+        }
+    }
+    return true;
+}
+
+static bool same_tally(const guard_tally *theirs)
+{
+    return memcmp(lent.tally.steps, theirs->steps, sizeof theirs->steps) == 0 && memcmp(lent.tally.accepted, theirs->accepted, sizeof theirs->accepted) == 0 &&
+           memcmp(lent.tally.suppressed, theirs->suppressed, sizeof theirs->suppressed) == 0 && memcmp(lent.tally.inserted, theirs->inserted, sizeof theirs->inserted) == 0;
+}
+
+/* A trace stands behind its policy, and the action says where the counts begin. */
+static void compare_trace(uint8_t action, unsigned long call)
+{
+    const size_t end = policy_end(&policy);
+    const uint8_t *const trace = policy.bytes + end;
+    const size_t trace_length = policy.length - end;
+    guard_tally tally;
+
+    set_tally(tally_start(action));
+    memcpy(tally.steps, lent.tally.steps, sizeof tally.steps);
+    memcpy(tally.accepted, lent.tally.accepted, sizeof tally.accepted);
+    memcpy(tally.suppressed, lent.tally.suppressed, sizeof tally.suppressed);
+    memcpy(tally.inserted, lent.tally.inserted, sizeof tally.inserted);
+    memcpy(their_state, state.bytes, state.length);
+    memcpy(their_events, events.bytes, events.length);
+    const guard_traced theirs = guard_trace(policy.bytes, end, trace, trace_length, their_state, state.length, their_events, events.length, &tally);
+    const fretmere_answer ours =
+        fretmere_trace(policy.bytes, end, trace, trace_length, state.bytes, state.length, events.bytes, events.length, &lent.tally, &lent.run);
+
+    if (!same_refusal(ours, theirs.refusal, theirs.place) || lent.run.judged != theirs.judged || lent.run.events != theirs.events || lent.run.status != theirs.status) {
+        fail("another answer of the trace run", call);
+    }
+    if (memcmp(state.bytes, their_state, state.length) != 0 || memcmp(events.bytes, their_events, events.length) != 0) {
+        fail("another buffer of the trace run", call);
+    }
+    if (!same_tally(&tally)) {
+        fail("another tally", call);
+    }
+    if (!all_marked(lent.ahead) || !all_marked(lent.between) || !all_marked(lent.behind)) {
+        fail("a byte beside the tally or the run is written", call);
+    }
+}
+
+/* How many calls of a batch there were, and how many of them were trace runs. */
+struct compared {
+    unsigned long calls, traces;
+};
+
+static struct compared compare_batch(void)
+{
+    unsigned long calls = 0, traces = 0;
 
     for (int entry = getchar(); entry != EOF; entry = getchar(), calls++) {
         if (!read_field(&policy) || !read_field(&state) || !read_field(&events)) {
@@ -110,6 +184,9 @@ static unsigned long compare_batch(void)
             compare_check(calls);
         } else if (entry == WRITE) {
             compare_write(calls);
+        } else if (entry == TRACE) {
+            compare_trace((uint8_t)action, calls);
+            traces++;
         } else {
             compare_call(entry, (uint8_t)action, calls);
         }
@@ -117,10 +194,10 @@ static unsigned long compare_batch(void)
             fail("a byte beside a buffer is written", calls);
         }
         if (memcmp(kept, policy.bytes, policy.length) != 0) {
-            fail("the policy, or the nodes, are written", calls);
+            fail("the policy, the trace or the nodes are written", calls);
         }
     }
-    return calls;
+    return (struct compared){calls, traces};
 }
 
 static void expect(bool holds, const char *what)
@@ -175,11 +252,55 @@ static void small_calls(void)
     expect(fretmere_refusal(answer) == FRETMERE_REFUSED_BUFFERS && fretmere_place(answer) == FRETMERE_NO_PLACE, "a short event buffer");
 }
 
+/* Policy V of 01: set {4}; 0 next 1/3, 1 sup 2, 2 ins 3 to 0, 3 ins 3 to 4, 4 end. */
+static const uint8_t V[] = {
+    0, 82, 1, 1, 0, 5,
+    1, 0, 0, 5, 0, 0, 0, 0, 0, 0, 0, 0, 0, 0, 0, 16,
+    1, 0, 1, 3, 0, 0, 0, 0, 0, 0, 0, 0,
+    3, 0, 2, 0, 0, 0, 0, 0, 0, 0, 0, 0,
+    4, 3, 0, 0, 0, 0, 0, 0, 0, 0, 0, 0,
+    4, 3, 4, 0, 0, 0, 0, 0, 0, 0, 0, 0,
+    7, 0, 0, 0, 0, 0, 0, 0, 0, 0, 0, 0,
+};
+
+static bool steps_ran(const fretmere_tally *tally, const uint32_t counts[5])
+{
+    return memcmp(tally->steps, counts, 5 * sizeof *counts) == 0;
+}
+
+/* L halts on its fourth 2, with no closing, and the trace's last 2 is not judged. V is run over 4 twice, in one tally: each time suppressed 4,
+   inserted 3, and 3 again in closing; then once more with room for no closing. */
+static void small_traces(void)
+{
+    uint8_t saved[FRETMERE_STATE_BYTES], room[FRETMERE_EVENT_BYTES + 16];
+    static fretmere_tally tally, other;
+    fretmere_run run;
+
+    expect(fretmere_trace(L, sizeof L, (const uint8_t *)"\1\2\2\2\2\2", 6, saved, sizeof saved, room, sizeof room, &tally, &run) == FRETMERE_NOT_REFUSED, "L's trace");
+    expect(run.judged == 5 && run.events == 4 && run.status == FRETMERE_HALTED, "L's run");
+    expect(memcmp(room, "\1\1\1\2\1\2\1\2", 8) == 0, "L's events");
+    expect(steps_ran(&tally, (const uint32_t[]){4, 4, 3, 1, 0}), "L's steps");
+    expect(tally.accepted[1] == 1 && tally.accepted[2] == 3 && tally.suppressed[2] == 0 && tally.inserted[2] == 0, "L's actions");
+
+    for (uint32_t times = 1; times <= 2; times++) {
+        expect(fretmere_trace(V, sizeof V, (const uint8_t *)"\4", 1, saved, sizeof saved, room, sizeof room, &other, &run) == FRETMERE_NOT_REFUSED, "V's trace");
+        expect(run.judged == 1 && run.events == 3 && run.status == FRETMERE_ENDED && memcmp(room, "\2\4\3\3\3\3", 6) == 0, "V's run");
+        expect(steps_ran(&other, (const uint32_t[]){2 * times, times, times, times, times}), "V's steps");
+        expect(other.suppressed[4] == times && other.inserted[3] == 2 * times && other.accepted[3] == 0 && other.accepted[4] == 0, "V's actions");
+    }
+    const fretmere_answer answer = fretmere_trace(V, sizeof V, (const uint8_t *)"\4", 1, saved, sizeof saved, room, FRETMERE_EVENT_BYTES + 1, &other, &run);
+    expect(fretmere_refusal(answer) == FRETMERE_REFUSED_ROOM && fretmere_place(answer) == FRETMERE_NO_PLACE, "no room to close");
+    expect(run.judged == 1 && run.events == 2 && run.status == FRETMERE_RUNNING, "V's run before it");
+    expect(steps_ran(&other, (const uint32_t[]){5, 3, 3, 2, 2}), "V's steps before it");
+}
+
 /* L with a target of its step 2 outside the leaf: refused 6 at 2 by every function that checks, and nothing told besides. */
 static void places(void)
 {
     enum { STEPS = 22, STEP = 12, WRONG = 2, TARGET = 2 };
     uint8_t wrong[sizeof L], saved[FRETMERE_STATE_BYTES] = {0}, room[FRETMERE_EVENT_BYTES];
+    static fretmere_tally tally;
+    fretmere_run run = {7, 8, 9};
     uint64_t regulated, effects;
 
     memcpy(wrong, L, sizeof L);
@@ -190,11 +311,13 @@ static void places(void)
         fretmere_offer(wrong, sizeof wrong, saved, sizeof saved, room, sizeof room, 2),
         fretmere_close(wrong, sizeof wrong, saved, sizeof saved, room, sizeof room),
         fretmere_write(wrong + STEPS - 16, 16, wrong + STEPS, sizeof wrong - STEPS, room, sizeof room),
+        fretmere_trace(wrong, sizeof wrong, L, 0, saved, sizeof saved, room, sizeof room, &tally, &run),
     };
     for (size_t i = 0; i < sizeof answers / sizeof *answers; i++) {
         expect(fretmere_refusal(answers[i]) == FRETMERE_REFUSED_TARGET && fretmere_place(answers[i]) == WRONG, "6 at 2");
         expect(fretmere_status(answers[i]) == 0 && fretmere_events(answers[i]) == 0 && fretmere_length(answers[i]) == 0, "a refusal tells more");
     }
+    expect(run.judged == 0 && run.events == 0 && run.status == 0, "a run that was not opened");
 }
 
 /* The header's helpers, on a leaf that inserts twice before its verdict and once after it: set {0}; 0 next 1/5, 1 ins 3 to 2, 2 ins 6 to 3,
@@ -224,7 +347,9 @@ int main(void)
 {
     helpers();
     small_calls();
+    small_traces();
     places();
-    printf("client: the small calls and %lu of a batch as they should be\n", compare_batch());
+    const struct compared batch = compare_batch();
+    printf("client: the small calls and %lu of a batch, %lu of them runs over a trace, as they should be\n", batch.calls, batch.traces);
     return 0;
 }

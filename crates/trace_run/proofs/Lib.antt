@@ -4,4 +4,3 @@ pub mod TailLaws
 pub mod RunLaws
 pub mod LoopLaws
 pub mod OpenLaws
-pub mod Apart

@@ -39,12 +39,6 @@ pub const ACTIONS: usize = 64;
 
 pub const ACTION_COUNTS: usize = 192;
 
-// The tally: for each step of the file how often it ran; and for each action how often it was accepted, suppressed, inserted.
-pub struct Tally {
-    pub steps: [u32; STEP_COUNTS],
-    pub actions: [u32; ACTION_COUNTS],
-}
-
 // By a refusal, or by none, where the root halts or is closed.
 pub enum Stop {
     Unrefused,
@@ -306,26 +300,4 @@ pub fn follow_trace(
         }
         Answer::Refused(f) => Report::Unopened(f),
     }
-}
-
-// "One tally is handed along and brought up to date after every call": the run as its caller has it.
-pub fn run(
-    policy: &[u8],
-    trace: &[u8],
-    state: &mut [u8],
-    events: &mut [u8],
-    tally: &mut Tally,
-) -> Report
-    ensures { λ r. ⌜ Told (traces (now (policy .entry)) (now (trace .entry)) (now (state .entry)) (now (events .entry))
-        (record { steps = now (tally .entry) .steps; actions = now (tally .entry) .actions }))
-        r (now (state .exit)) (now (events .exit)) (now (tally .exit) .steps) (now (tally .exit) .actions) ⌝ }
-{
-    follow_trace(
-        policy,
-        trace,
-        state,
-        events,
-        &mut tally.steps,
-        &mut tally.actions,
-    )
 }

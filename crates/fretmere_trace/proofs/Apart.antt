@@ -24,8 +24,8 @@ use denote.Struct.Declared.{shape}
 use denote.Struct.Members.{Member, rowsOf, partsAt}
 use denote.Struct.Parts.{PartsBack, struct-parts}
 use denote.Steps.{nothing}
-use Rattle.trace_run.specs.declared.Tally.{Tally}
-use Rattle.trace_run.proofs.Tally as T
+use Rattle.fretmere_trace.specs.declared.Tally.{Tally}
+use Rattle.fretmere_trace.proofs.Tally as T
 
 abbrev counts : ℕ → Member
 counts n = record { row = Array u32 n; ty = tyArray (tyInt w32) n }
