@@ -5,7 +5,7 @@ ghost use Rattle.spec_trace.specs.Traces as traces;
 ghost use Rattle.trace_run.specs.Reports.{stopValue};
 ghost use Rattle.fretmere_trace.specs.Words.{stopWord, Gave};
 use faults::fault_word;
-use trace_run::ACTION_COUNTS;
+use trace_events::ACTION_COUNTS;
 use trace_run::Report;
 use trace_run::Stop;
 use trace_run::follow_trace;

@@ -14,7 +14,7 @@ use libc::STDIN_FILENO;
 use libc::STDOUT_FILENO;
 use run_input::policy_part;
 use text_append::append;
-use trace_run::ACTION_COUNTS;
+use trace_events::ACTION_COUNTS;
 use trace_run::follow_trace;
 use turn_state::STATE_SIZE;
 use turn_tally::STEP_COUNTS;

@@ -15,7 +15,7 @@ use text_append::append;
 use text_append::refuse;
 use text_tally::append_numbered;
 use text_tally::print_tally;
-use trace_run::ACTION_COUNTS;
+use trace_events::ACTION_COUNTS;
 use trace_run::Report;
 use trace_run::Stop;
 use turn_tally::STEP_COUNTS;

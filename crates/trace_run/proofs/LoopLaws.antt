@@ -19,7 +19,7 @@ use Rattle.call_answer.specs.declared.Answer.the-variants.{Answered, Refused}
 use Rattle.trace_run.specs.declared.Stop.the-variants.{Unrefused, RefusedWith}
 use Rattle.trace_run.specs.declared.Report.{Report}
 use Rattle.trace_run.specs.declared.Report.the-variants.{Followed}
-use Rattle.trace_run.specs.Tails.{Tailed}
+use Rattle.trace_call.specs.Tails.{Tailed}
 use Rattle.trace_run.specs.Reports.{Told, runOf, Running}
 use Rattle.trace_run.proofs.RunLaws.{refuses-with, answers-with, told-refused, told-ends, after-is, long-as, runs-on}
 

@@ -28,7 +28,7 @@ use Rattle.call_carry.specs.Calls.{readable}
 use Rattle.trace_run.specs.declared.Stop.the-variants.{Unrefused}
 use Rattle.trace_run.specs.declared.Report.{Report}
 use Rattle.trace_run.specs.declared.Report.the-variants.{Unopened, Followed}
-use Rattle.trace_run.specs.Tails.{afterHalt, Callable, Tailed}
+use Rattle.trace_call.specs.Tails.{afterHalt, Callable, Tailed}
 use Rattle.trace_run.specs.Reports.{reportValue, Told, runOf, Running}
 use Rattle.trace_run.proofs.RunLaws.{refuses-with, answers-with, told-ends, after-is, runs-from}
 

@@ -37,7 +37,7 @@ use Rattle.call_answer.specs.declared.Call.the-variants.{Offer, Close}
 use Rattle.call_carry.specs.Calls.{readable}
 use Rattle.trace_run.specs.declared.Stop.the-variants.{Unrefused, RefusedWith}
 use Rattle.trace_run.specs.declared.Report.the-variants.{Followed}
-use Rattle.trace_run.specs.Tails.{afterHalt, Callable, ifAnswered, Tailed}
+use Rattle.trace_call.specs.Tails.{afterHalt, Callable, ifAnswered, Tailed}
 use Rattle.trace_run.specs.Reports.{stopValue, reportValue, Told, runOf, Running}
 
 -- ---- what a call asks

@@ -26,7 +26,7 @@ use guard::close;
 use guard::offer;
 use guard::open;
 use run_input::policy_part;
-use trace_run::ACTION_COUNTS;
+use trace_events::ACTION_COUNTS;
 use trace_run::Report;
 use trace_run::Stop;
 use trace_run::follow_trace;

@@ -15,7 +15,7 @@ use crate::calls::Parts;
 use crate::calls::find;
 use libc::STDIN_FILENO;
 use libc::STDOUT_FILENO;
-use trace_run::ACTION_COUNTS;
+use trace_events::ACTION_COUNTS;
 use turn_tally::STEP_COUNTS;
 
 mod answers;

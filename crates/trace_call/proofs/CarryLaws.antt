@@ -1,11 +1,9 @@
 -- A call that is carried out: how many events it has, and that counting them by their bytes counts its actions.
-use Prim.Native.Nat.{ℕ, suc, _+_, _*_, _≤_}
+use Prim.Native.Nat.{ℕ, _+_, _*_, _≤_}
 use native.Mathlib.Omega.{arith}
-use native.Mathlib.Nat.{zero-add}
-use native.Mathlib.Numerals.{add-one}
 use mathlib.Core.Path.{_≡_, refl, sym, ap, ap₂, _∙_, subst}
-use mathlib.Core.List.{List, [], _∷_, _++_}
-use lib.ListN.{length, getD, drop, length-append}
+use mathlib.Core.List.{List, [], _++_}
+use lib.ListN.{length, drop}
 use Rattle.spec_policy.specs.Bytes.{Bytes, put}
 use Rattle.spec_policy.specs.Tree.{tree}
 use Rattle.spec_policy.proofs.ByteLaws.{put-length}
@@ -15,12 +13,12 @@ use Rattle.spec_turns.specs.Status.{statusNumber}
 use Rattle.spec_turns.specs.State.{status}
 use Rattle.spec_turns.specs.Process.{outcome}
 use Rattle.spec_turns.specs.Turn.{Request, call}
-use Rattle.spec_turns.specs.Events.{Event, accepted, suppressed, inserted, events, eventBytes}
+use Rattle.spec_turns.specs.Events.{Event, events, eventBytes}
 use Rattle.spec_turns.specs.Saved.{cells, load}
 use Rattle.spec_turns.specs.Entries.{Result, carried, carriedOut}
 use Rattle.laws_turns.proofs.Bounds.{two-each}
 use Rattle.laws_turns.proofs.Spread.{events-bound}
-use Rattle.spec_trace.specs.Tallies.{actionCounted, actionsTallied, eventsTallied}
+use Rattle.spec_trace.specs.Tallies.{actionsTallied}
 use Rattle.spec_trace.specs.Traces.{ranBy}
 use Rattle.spec_trace.proofs.TallyLaws.{actions-by-events}
 use Rattle.faults.specs.declared.Fault.{Fault}
@@ -29,7 +27,8 @@ use Rattle.call_answer.specs.declared.Answer.the-variants.{Answered, Refused}
 use Rattle.call_answer.specs.Replies.{spoken, Gave}
 use Rattle.call_answer.specs.declared.Call.{Call}
 use Rattle.call_carry.specs.Calls.{Allowed}
-use Rattle.trace_run.specs.Counts.{tablePlace, eventCounted, bytesTallied}
+use Rattle.trace_events.specs.Counts.{bytesTallied}
+use Rattle.trace_events.proofs.EventLaws.{bytes-events}
 
 pub allowed-as : {policy state room : Bytes} {x y : Call} → x ≡ y → Allowed policy state room x → Allowed policy state room y
 allowed-as {policy} {state} {room} e h = subst (Allowed policy state room) e h
@@ -37,43 +36,11 @@ allowed-as {policy} {state} {room} e h = subst (Allowed policy state room) e h
 pub gave-of : {x : Result} {r r′ : Answer} {bytes room : Bytes} → r ≡ r′ → Gave x r bytes room → Gave x r′ bytes room
 gave-of {x} {bytes = bytes} {room} e g = subst (λ (z : Answer). Gave x z bytes room) e g
 
--- ---- events by their bytes
-
-append-two : (front : Bytes) (k a : ℕ) (xs : Bytes) → front ++ (k ∷ a ∷ xs) ≡ (front ++ (k ∷ a ∷ [])) ++ xs
-append-two [] k a xs = refl
-append-two (f ∷ front) k a xs = ap (λ (ys : Bytes). f ∷ ys) (append-two front k a xs)
-
-get-first : (front : Bytes) (k a : ℕ) (xs : Bytes) → getD (front ++ (k ∷ a ∷ xs)) (length front) 0 ≡ k
-get-first [] k a xs = refl
-get-first (f ∷ front) k a xs = get-first front k a xs
-
-get-second : (front : Bytes) (k a : ℕ) (xs : Bytes) → getD (front ++ (k ∷ a ∷ xs)) (length front + 1) 0 ≡ a
-get-second [] k a xs = refl
-get-second (f ∷ front) k a xs = rw (add-one (suc (length front)), sym (add-one (length front))) (get-second front k a xs)
-
--- one event more
-step-on : (es : List Event) (front back : Bytes) (k a : ℕ) (counts next : List ℕ) → eventCounted k a counts ≡ next
-    → bytesTallied (suc (length es)) (front ++ (k ∷ a ∷ (eventBytes es ++ back))) (length front) counts
-    ≡ bytesTallied (length es) ((front ++ (k ∷ a ∷ [])) ++ (eventBytes es ++ back)) (length (front ++ (k ∷ a ∷ []))) next
-unfolding bytesTallied
-step-on es front back k a counts next e =
-    ap₂ (λ (x y : ℕ). bytesTallied (length es) (front ++ (k ∷ a ∷ (eventBytes es ++ back))) (length front + 2) (eventCounted x y counts)) (get-first front k a (eventBytes es ++ back)) (get-second front k a (eventBytes es ++ back))
-    ∙ ap (bytesTallied (length es) (front ++ (k ∷ a ∷ (eventBytes es ++ back))) (length front + 2)) e
-    ∙ ap₂ (λ (bs : Bytes) (n : ℕ). bytesTallied (length es) bs n next) (append-two front k a (eventBytes es ++ back)) (sym (length-append front (k ∷ a ∷ [])))
-
--- the bytes from a place on are these, and then others
-bytes-events : (es : List Event) (front back : Bytes) (counts : List ℕ) → bytesTallied (length es) (front ++ (eventBytes es ++ back)) (length front) counts ≡ eventsTallied es counts
-unfolding bytesTallied eventsTallied eventBytes eventCounted tablePlace
-bytes-events [] front back counts = refl
-bytes-events (accepted a ∷ es) front back counts = step-on es front back 1 a counts (actionCounted counts a) (ap (actionCounted counts) (zero-add a)) ∙ bytes-events es (front ++ (1 ∷ a ∷ [])) back (actionCounted counts a)
-bytes-events (suppressed a ∷ es) front back counts = step-on es front back 2 a counts (actionCounted counts (64 + a)) refl ∙ bytes-events es (front ++ (2 ∷ a ∷ [])) back (actionCounted counts (64 + a))
-bytes-events (inserted a ∷ es) front back counts = step-on es front back 3 a counts (actionCounted counts (128 + a)) refl ∙ bytes-events es (front ++ (3 ∷ a ∷ [])) back (actionCounted counts (128 + a))
+-- ---- the call
 
 put-front : (room over : Bytes) → put room 0 over ≡ over ++ drop (0 + length over) room
 unfolding put
 put-front room over = refl
-
--- ---- the call
 
 rootIn : Answer → ℕ
 rootIn (Answered n s) = s

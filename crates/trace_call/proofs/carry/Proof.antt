@@ -1,9 +1,9 @@
 -- `carry` meets its contract.
 use mathlib.Core.Path.{_∙_}
 use borrow.Author.Needs.{needs}
-use Rattle.trace_run.proofs.CarryLaws.{gave-of, not-refused, events-fit, events-counted}
-use Rattle.trace_run.proofs.carry.Statement.{statement}
-use Rattle.trace_run.proofs.carry.Tie as tie
+use Rattle.trace_call.proofs.CarryLaws.{gave-of, not-refused, events-fit, events-counted}
+use Rattle.trace_call.proofs.carry.Statement.{statement}
+use Rattle.trace_call.proofs.carry.Tie as tie
 
 returns : tie.Need-returns
 returns c = absurd (not-refused _ _ _ _ (c .before .before .before .before .before .before .carry-steps .ensures .0) (c .enum-told .given .1))

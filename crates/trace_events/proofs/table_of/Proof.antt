@@ -1,9 +1,9 @@
 -- `table_of` meets its contract.
 use native.Mathlib.Omega.{arith}
 use borrow.Author.Needs.{needs}
-use Rattle.trace_run.proofs.EventLaws.{table-1, table-2, table-3, table-else}
-use Rattle.trace_run.proofs.table_of.Statement.{statement}
-use Rattle.trace_run.proofs.table_of.Tie as tie
+use Rattle.trace_events.proofs.EventLaws.{table-1, table-2, table-3, table-else}
+use Rattle.trace_events.proofs.table_of.Statement.{statement}
+use Rattle.trace_events.proofs.table_of.Tie as tie
 
 returns : tie.Need-returns
 returns c = (table-1 _ (c .if1 .taken), omega arith)

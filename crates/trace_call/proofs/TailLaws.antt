@@ -28,8 +28,8 @@ use Rattle.call_answer.specs.declared.Call.the-variants.{Open, Offer, Close}
 use Rattle.call_answer.specs.Requests.{asked}
 use Rattle.call_answer.specs.Replies.{spoken, Gave}
 use Rattle.call_carry.specs.Calls.{readable, Allowed}
-use Rattle.trace_run.proofs.CarryLaws.{not-refused, refused-not, root-answered}
-use Rattle.trace_run.specs.Tails.{noAction, afterHalt, Callable, ifAnswered, Tailed}
+use Rattle.trace_call.proofs.CarryLaws.{not-refused, refused-not, root-answered}
+use Rattle.trace_call.specs.Tails.{noAction, afterHalt, Callable, ifAnswered, Tailed}
 
 -- ---- an action's number
 

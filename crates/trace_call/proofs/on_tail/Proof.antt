@@ -2,9 +2,9 @@
 use native.Mathlib.Omega.{arith}
 use mathlib.Core.Path.{sym, _∙_}
 use borrow.Author.Needs.{needs}
-use Rattle.trace_run.proofs.TailLaws.{tail-thirteen, tail-short, tail-allowed, tail-goes}
-use Rattle.trace_run.proofs.on_tail.Statement.{statement}
-use Rattle.trace_run.proofs.on_tail.Tie as tie
+use Rattle.trace_call.proofs.TailLaws.{tail-thirteen, tail-short, tail-allowed, tail-goes}
+use Rattle.trace_call.proofs.on_tail.Statement.{statement}
+use Rattle.trace_call.proofs.on_tail.Tie as tie
 
 returns : tie.Need-returns
 returns c = tail-thirteen (c .before .before .before .before .before .before .pre) (c .bare-fault .ensures) (sym (c .before .before .no-action .ensures) ∙ c .before .if1 .taken)

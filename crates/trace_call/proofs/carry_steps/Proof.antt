@@ -4,9 +4,9 @@ use Rattle.spec_trace.specs.Tallies.{stepsIf}
 use Rattle.call_answer.specs.Requests.{asked}
 use Rattle.call_carry.specs.Calls.{asksRoot}
 use Rattle.call_carry.proofs.CallLaws.{gave-as, steps-as}
-use Rattle.trace_run.proofs.CarryLaws.{allowed-as}
-use Rattle.trace_run.proofs.carry_steps.Statement.{statement}
-use Rattle.trace_run.proofs.carry_steps.Tie as tie
+use Rattle.trace_call.proofs.CarryLaws.{allowed-as}
+use Rattle.trace_call.proofs.carry_steps.Statement.{statement}
+use Rattle.trace_call.proofs.carry_steps.Tie as tie
 use mathlib.Core.Bool.{true}
 
 carry-out-counting-requires : tie.Need-carry-out-counting-requires

@@ -2,9 +2,9 @@
 use mathlib.Core.Path.{ap}
 use Prim.Native.Nat.{ℕ, _+_}
 use borrow.Author.Needs.{needs}
-use Rattle.trace_run.proofs.EventLaws.{event-in, event-past}
-use Rattle.trace_run.proofs.count_event.Statement.{statement}
-use Rattle.trace_run.proofs.count_event.Tie as tie
+use Rattle.trace_events.proofs.EventLaws.{event-in, event-past}
+use Rattle.trace_events.proofs.count_event.Statement.{statement}
+use Rattle.trace_events.proofs.count_event.Tie as tie
 
 returns : tie.Need-returns
 returns c =

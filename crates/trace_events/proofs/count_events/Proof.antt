@@ -3,10 +3,10 @@ use native.Mathlib.Omega.{arith}
 use Prim.Native.Nat.{_+_, _*_, _-_}
 use mathlib.Core.Path.{_≡_, sym, ap, _∙_}
 use borrow.Author.Needs.{needs}
-use Rattle.trace_run.specs.Counts.{bytesTallied}
-use Rattle.trace_run.proofs.EventLaws.{tally-first, tally-next, tally-over}
-use Rattle.trace_run.proofs.count_events.Statement.{statement}
-use Rattle.trace_run.proofs.count_events.Tie as tie
+use Rattle.trace_events.specs.Counts.{bytesTallied}
+use Rattle.trace_events.proofs.EventLaws.{tally-first, tally-next, tally-over}
+use Rattle.trace_events.proofs.count_events.Statement.{statement}
+use Rattle.trace_events.proofs.count_events.Tie as tie
 
 abbrev Inv-loop : tie.InvT-loop
 Inv-loop actions₀ events count i₀ actions i = bytesTallied (count - i) events (2 * i) actions ≡ bytesTallied count events 0 actions₀

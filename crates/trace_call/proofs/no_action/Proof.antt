@@ -1,10 +1,10 @@
 -- `no_action` meets its contract.
 use mathlib.Core.Path.{refl}
 use borrow.Author.Needs.{needs}
-use Rattle.trace_run.specs.Tails.{noAction}
-use Rattle.trace_run.proofs.TailLaws.{action-as, by-number}
-use Rattle.trace_run.proofs.no_action.Statement.{statement}
-use Rattle.trace_run.proofs.no_action.Tie as tie
+use Rattle.trace_call.specs.Tails.{noAction}
+use Rattle.trace_call.proofs.TailLaws.{action-as, by-number}
+use Rattle.trace_call.proofs.no_action.Statement.{statement}
+use Rattle.trace_call.proofs.no_action.Tie as tie
 
 returns : tie.Need-returns
 unfolding noAction
