@@ -1,6 +1,6 @@
 /* bench.c: one kind of call of one guard on one policy, so many times: bench GUARD CALL POLICY COUNT [ACTION]. GUARD is ours or second,
  * CALL is check, open, offer, close or write, which writes the policy anew from its own records; or run, which is one run over a trace of so many
- * times the action. Prints the answer, or, with COUNT 0, how much stack one call took. */
+ * times the action. Prints the answer, or, with COUNT 0, how much stack one call took, or a run over one action. */
 #include "../include/fretmere_trace.h"
 #include "../second/guard.h"
 
@@ -20,28 +20,6 @@ static const uint8_t *const nodes = policy + 6;
 static size_t nodes_length(void) { return 16u * policy[3]; }
 static size_t steps_length(void) { return length - 6 - nodes_length(); }
 
-/* For run: the trace, room for the events of any, and a tally each. */
-enum { TRACE_MOST = 64 };
-static uint8_t trace[TRACE_MOST], all_events[FRETMERE_EVENT_BYTES * (TRACE_MOST + 2)];
-static size_t trace_length = 1;
-static fretmere_tally tally;
-static guard_tally their_tally;
-
-static unsigned our_run(void)
-{
-    fretmere_run run = {0, 0, 0};
-
-    fretmere_trace(policy, length, trace, trace_length, state, sizeof state, all_events, sizeof all_events, &tally, &run);
-    return (unsigned)(run.status << 24 | run.events);
-}
-
-static unsigned their_run(void)
-{
-    const guard_traced run = guard_trace(policy, length, trace, trace_length, state, sizeof state, all_events, sizeof all_events, &their_tally);
-
-    return (unsigned)run.status << 24 | run.events;
-}
-
 static unsigned ours(char call, uint8_t action)
 {
     uint64_t regulated = 0, effects = 0;
@@ -55,8 +33,6 @@ static unsigned ours(char call, uint8_t action)
         return fretmere_offer(policy, length, state, sizeof state, events, sizeof events, action) & 0xFFFFFF;
     case 'r':
         return fretmere_write(nodes, nodes_length(), nodes + nodes_length(), steps_length(), written, sizeof written) & 0xFFFFFF;
-    case 'u':
-        return our_run();
     default:
         return fretmere_close(policy, length, state, sizeof state, events, sizeof events) & 0xFFFFFF;
     }
@@ -75,8 +51,6 @@ static unsigned second(char call, uint8_t action)
         return answer(guard_offer(policy, length, state, sizeof state, events, sizeof events, action));
     case 'r':
         return (unsigned)guard_write(nodes, nodes_length(), nodes + nodes_length(), steps_length(), written, sizeof written).length;
-    case 'u':
-        return their_run();
     default:
         return answer(guard_close(policy, length, state, sizeof state, events, sizeof events));
     }
@@ -103,6 +77,38 @@ __attribute__((noinline)) static size_t stack(bool paint)
     return PAINTED - i;
 }
 
+/* A run over a trace, apart from the calls, so that these cost what they do without it. */
+enum { TRACE_MOST = 64 };
+static uint8_t trace[TRACE_MOST], all_events[FRETMERE_EVENT_BYTES * (TRACE_MOST + 2)];
+static fretmere_tally our_tally;
+static guard_tally their_tally;
+
+__attribute__((noinline)) static unsigned our_run(size_t trace_length)
+{
+    fretmere_run run = {0, 0, 0};
+
+    fretmere_trace(policy, length, trace, trace_length, state, sizeof state, all_events, sizeof all_events, &our_tally, &run);
+    return (unsigned)(run.status << 24 | run.events);
+}
+
+__attribute__((noinline)) static unsigned their_run(size_t trace_length)
+{
+    const guard_traced run = guard_trace(policy, length, trace, trace_length, state, sizeof state, all_events, sizeof all_events, &their_tally);
+
+    return (unsigned)run.status << 24 | run.events;
+}
+
+static void measure_run(bool second_guard, uint8_t action, long count)
+{
+    const size_t trace_length = count > TRACE_MOST ? TRACE_MOST : count > 0 ? (size_t)count : 1;
+
+    memset(trace, action, sizeof trace);
+    stack(true);
+    const unsigned answered = second_guard ? their_run(trace_length) : our_run(trace_length);
+    const size_t taken = stack(false);
+    printf("%zu\n", count == 0 ? taken : answered);
+}
+
 int main(int words, char **word)
 {
     FILE *file = words >= 5 ? fopen(word[3], "rb") : NULL;
@@ -116,15 +122,14 @@ int main(int words, char **word)
     const bool second_guard = word[1][0] == 's';
     const char call = word[2][1];
     const uint8_t action = words > 5 ? (uint8_t)atoi(word[5]) : 0;
-    long count = atol(word[4]);
+    const long count = atol(word[4]);
     unsigned last = 0;
 
-    guard_open(policy, length, opened, sizeof opened, events, sizeof events);
-    memset(trace, action, sizeof trace);
-    if (call == 'u' && count > 0) {
-        trace_length = count < TRACE_MOST ? (size_t)count : TRACE_MOST;
-        count = 1;
+    if (call == 'u') {
+        measure_run(second_guard, action, count);
+        return 0;
     }
+    guard_open(policy, length, opened, sizeof opened, events, sizeof events);
     if (count == 0) {
         memcpy(state, opened, sizeof state);
         stack(true);

@@ -28,7 +28,8 @@
 extern "C" {
 #endif
 
-/* The version of this header, of fretmere_trace.h and of the libraries that go with them. The number in the policy file's third byte is another: the format's. */
+/* The version of this header, of fretmere_trace.h and of the libraries that go with them. The number in the policy file's third byte is
+ * another: the format's. */
 #define FRETMERE_VERSION_MAJOR 2
 #define FRETMERE_VERSION_MINOR 1
 #define FRETMERE_VERSION_PATCH 0
