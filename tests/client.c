@@ -128,8 +128,10 @@ static bool all_marked(const uint8_t *bytes)
 
 static bool same_tally(const guard_tally *theirs)
 {
-    return memcmp(lent.tally.steps, theirs->steps, sizeof theirs->steps) == 0 && memcmp(lent.tally.accepted, theirs->accepted, sizeof theirs->accepted) == 0 &&
-           memcmp(lent.tally.suppressed, theirs->suppressed, sizeof theirs->suppressed) == 0 && memcmp(lent.tally.inserted, theirs->inserted, sizeof theirs->inserted) == 0;
+    return memcmp(lent.tally.steps, theirs->steps, sizeof theirs->steps) == 0 &&
+           memcmp(lent.tally.accepted, theirs->accepted, sizeof theirs->accepted) == 0 &&
+           memcmp(lent.tally.suppressed, theirs->suppressed, sizeof theirs->suppressed) == 0 &&
+           memcmp(lent.tally.inserted, theirs->inserted, sizeof theirs->inserted) == 0;
 }
 
 /* A trace stands behind its policy, and the action says where the counts begin. */
@@ -151,7 +153,8 @@ static void compare_trace(uint8_t action, unsigned long call)
     const fretmere_answer ours =
         fretmere_trace(policy.bytes, end, trace, trace_length, state.bytes, state.length, events.bytes, events.length, &lent.tally, &lent.run);
 
-    if (!same_refusal(ours, theirs.refusal, theirs.place) || lent.run.judged != theirs.judged || lent.run.events != theirs.events || lent.run.status != theirs.status) {
+    if (!same_refusal(ours, theirs.refusal, theirs.place) || lent.run.judged != theirs.judged || lent.run.events != theirs.events ||
+        lent.run.status != theirs.status) {
         fail("another answer of the trace run", call);
     }
     if (memcmp(state.bytes, their_state, state.length) != 0 || memcmp(events.bytes, their_events, events.length) != 0) {
@@ -268,30 +271,41 @@ static bool steps_ran(const fretmere_tally *tally, const uint32_t counts[5])
     return memcmp(tally->steps, counts, 5 * sizeof *counts) == 0;
 }
 
-/* L halts on its fourth 2, with no closing, and the trace's last 2 is not judged. V is run over 4 twice, in one tally: each time suppressed 4,
-   inserted 3, and 3 again in closing; then once more with room for no closing. */
-static void small_traces(void)
+/* L halts on its fourth 2, with no closing, and the trace's last 2 is not judged. */
+static void small_halting_trace(void)
 {
+    static const uint8_t trace[] = {1, 2, 2, 2, 2, 2};
     uint8_t saved[FRETMERE_STATE_BYTES], room[FRETMERE_EVENT_BYTES + 16];
-    static fretmere_tally tally, other;
+    static fretmere_tally tally;
     fretmere_run run;
+    const fretmere_answer answer = fretmere_trace(L, sizeof L, trace, sizeof trace, saved, sizeof saved, room, sizeof room, &tally, &run);
 
-    expect(fretmere_trace(L, sizeof L, (const uint8_t *)"\1\2\2\2\2\2", 6, saved, sizeof saved, room, sizeof room, &tally, &run) == FRETMERE_NOT_REFUSED, "L's trace");
-    expect(run.judged == 5 && run.events == 4 && run.status == FRETMERE_HALTED, "L's run");
+    expect(answer == FRETMERE_NOT_REFUSED && run.judged == 5 && run.events == 4 && run.status == FRETMERE_HALTED, "L's run");
     expect(memcmp(room, "\1\1\1\2\1\2\1\2", 8) == 0, "L's events");
     expect(steps_ran(&tally, (const uint32_t[]){4, 4, 3, 1, 0}), "L's steps");
     expect(tally.accepted[1] == 1 && tally.accepted[2] == 3 && tally.suppressed[2] == 0 && tally.inserted[2] == 0, "L's actions");
+}
+
+/* V is run over 4 twice, in one tally: each time suppressed 4, inserted 3, and 3 again in closing; then once more, with no room to close. */
+static void small_traces(void)
+{
+    static const uint8_t trace[] = {4};
+    uint8_t saved[FRETMERE_STATE_BYTES], room[FRETMERE_EVENT_BYTES + 16];
+    static fretmere_tally tally;
+    fretmere_run run;
+    fretmere_answer answer;
 
     for (uint32_t times = 1; times <= 2; times++) {
-        expect(fretmere_trace(V, sizeof V, (const uint8_t *)"\4", 1, saved, sizeof saved, room, sizeof room, &other, &run) == FRETMERE_NOT_REFUSED, "V's trace");
-        expect(run.judged == 1 && run.events == 3 && run.status == FRETMERE_ENDED && memcmp(room, "\2\4\3\3\3\3", 6) == 0, "V's run");
-        expect(steps_ran(&other, (const uint32_t[]){2 * times, times, times, times, times}), "V's steps");
-        expect(other.suppressed[4] == times && other.inserted[3] == 2 * times && other.accepted[3] == 0 && other.accepted[4] == 0, "V's actions");
+        answer = fretmere_trace(V, sizeof V, trace, sizeof trace, saved, sizeof saved, room, sizeof room, &tally, &run);
+        expect(answer == FRETMERE_NOT_REFUSED && run.judged == 1 && run.events == 3 && run.status == FRETMERE_ENDED, "V's run");
+        expect(memcmp(room, "\2\4\3\3\3\3", 6) == 0, "V's events");
+        expect(steps_ran(&tally, (const uint32_t[]){2 * times, times, times, times, times}), "V's steps");
+        expect(tally.suppressed[4] == times && tally.inserted[3] == 2 * times && tally.accepted[3] == 0 && tally.accepted[4] == 0, "V's actions");
     }
-    const fretmere_answer answer = fretmere_trace(V, sizeof V, (const uint8_t *)"\4", 1, saved, sizeof saved, room, FRETMERE_EVENT_BYTES + 1, &other, &run);
+    answer = fretmere_trace(V, sizeof V, trace, sizeof trace, saved, sizeof saved, room, FRETMERE_EVENT_BYTES + 1, &tally, &run);
     expect(fretmere_refusal(answer) == FRETMERE_REFUSED_ROOM && fretmere_place(answer) == FRETMERE_NO_PLACE, "no room to close");
-    expect(run.judged == 1 && run.events == 2 && run.status == FRETMERE_RUNNING, "V's run before it");
-    expect(steps_ran(&other, (const uint32_t[]){5, 3, 3, 2, 2}), "V's steps before it");
+    expect(run.judged == 1 && run.events == 2 && run.status == FRETMERE_RUNNING, "V's run before that");
+    expect(steps_ran(&tally, (const uint32_t[]){5, 3, 3, 2, 2}), "V's steps before that");
 }
 
 /* L with a target of its step 2 outside the leaf: refused 6 at 2 by every function that checks, and nothing told besides. */
@@ -347,6 +361,7 @@ int main(void)
 {
     helpers();
     small_calls();
+    small_halting_trace();
     small_traces();
     places();
     const struct compared batch = compare_batch();

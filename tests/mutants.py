@@ -23,7 +23,7 @@ from mutations import mutants_of, mutated
 
 ROOT = Path(__file__).resolve().parent.parent
 PROGRAMS = sorted(p.parent.parent.name for p in (ROOT / "crates").glob("*/src/main.rt"))
-COSTLY = ["turn_node", "turn_leaf", "call_carry", "turn_rest", "guard", "fretmere", "call_fits"]  # these get only the least number
+COSTLY = ["turn_node", "turn_leaf", "call_carry", "turn_rest", "guard", "fretmere", "fretmere_trace", "call_fits"]  # these get only the least number
 LEAST = 4
 COLUMNS = "crate file line column old new kind verdict by seconds error".split()
 VERDICTS = ["refused", "by shape", "ill-formed", "survived", "undecided"]

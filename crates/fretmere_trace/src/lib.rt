@@ -19,7 +19,7 @@ pub struct Tally {
 }
 
 // The words of a report: the actions judged, the events written, the root's status.
-pub const REPORT_WORDS: usize = 3;
+const REPORT_WORDS: usize = 3;
 
 // What ended the run in one word: 0, or a refusal.
 fn stop_word(stop: Stop) -> u32
