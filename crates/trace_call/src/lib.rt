@@ -102,4 +102,3 @@ pub fn on_tail(
     }
     carry(policy, set, state, &mut events[at..], call, steps, actions)
 }
-

@@ -50,4 +50,3 @@ pub fn count_events(actions: &mut [u32; ACTION_COUNTS], events: &[u8], count: us
         i += 1;
     }
 }
-
