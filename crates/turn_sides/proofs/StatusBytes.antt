@@ -5,8 +5,10 @@ use mathlib.Core.Bool.{Bool, true, false, _&&_, _||_, not}
 use lib.Dec.{eqb}
 use borrow.Author.Tests.{lt-ltb, le-ltb, ne-eqb, eqb-true, eqb-false}
 use Rattle.actions.specs.Sets.{ActionSet, has}
+use Rattle.actions.proofs.Tests.{and-first, and-second}
 use Rattle.spec_policy.specs.Tree.{Join, and, or}
 use Rattle.spec_turns.specs.Status.{Status, isRunning, running, ended, endedLeft, endedRight, halted, hasEnded, isHalted, joined}
+use Rattle.spec_turns.proofs.StatusLaws.{is-running}
 use Rattle.spec_turns.specs.Turn.{Phase, before, after, closing, stillAsked}
 use Rattle.turn_memory.specs.Phases.{afterNumber, phaseOf}
 use Rattle.turn_paths.specs.Memory.{Cell}
@@ -54,6 +56,15 @@ module _ (l r : Status) where
   pub or-runs-right : hasEnded l ≡ false → hasEnded r ≡ false → isHalted l ≡ true → isHalted r ≡ false → joined or l r ≡ running
   unfolding joined
   or-runs-right e f g h = rw (e, f, g, h, joined)
+
+-- sides that both run decide nothing
+pub both-run : (j : Join) (l r : Status) → (isRunning l && isRunning r) ≡ true → joined j l r ≡ running
+unfolding joined hasEnded isHalted
+both-run j l r e = ap₂ (joined j) (is-running l (and-first (isRunning l) (isRunning r) e)) (is-running r (and-second (isRunning l) (isRunning r) e)) ∙ neither j
+  where
+    neither : (j : Join) → joined j running running ≡ running
+    neither and = refl
+    neither or = refl
 
 -- ---- a sequential node's choices
 

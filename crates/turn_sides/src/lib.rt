@@ -100,9 +100,13 @@ fn join_or(l: u8, r: u8) -> u8
     RUNNING
 }
 
+// Sides that both run decide nothing. They are most of what is asked, so that this is asked first.
 pub fn join(j: Join, l: u8, r: u8) -> u8
     ensures { λ s. ⌜ statusOf s ≡ joined (joinOf j) (statusOf l) (statusOf r) ⌝ }
 {
+    if is_running(l) & is_running(r) {
+        return RUNNING;
+    }
     match j {
         Join::And => join_and(l, r),
         Join::Or => join_or(l, r),
