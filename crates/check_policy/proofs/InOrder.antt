@@ -93,7 +93,7 @@ module _ (file : Bytes) where
         sym (lowest-refused file (faultBy file 8) (after (k .one) (after (k .two) (after (k .three) (after a (after b (after c (after d (here e refl)))))))))
 
     -- rule 4 by its two parts
-    by-parts : {b : Bool} → nodesFit file ≡ b → broken4 file ≡ (not b || not (every stepFits (stepRecords file)))
+    pub by-parts : {b : Bool} → nodesFit file ≡ b → broken4 file ≡ (not b || not (every stepFits (stepRecords file)))
     unfolding nodesFit
     by-parts e = broken4-is file ∙ ap (λ (x : Bool). not x || not (every stepFits (stepRecords file))) e
 

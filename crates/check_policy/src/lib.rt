@@ -92,7 +92,7 @@ fn check_tree(policy: &[u8], n: usize, m: usize, effects: &mut [u64], inserts: &
 }
 
 // Rules 4 to 8, and what follows. The walk through the leaves is the first to read the step records: what is broken before it is answered
-// only where these keep rule 4.
+// only where these keep rule 4. With no step there is no leaf, so that the other rules ask nothing, and both sets are empty.
 fn check_records(policy: &[u8], n: usize, m: usize) -> Checked
     requires { ⌜ FrontKept (now policy) n m ⌝ }
     ensures { λ r. ⌜ answered r ≡ check (now (policy .entry)) ⌝ }
@@ -106,6 +106,9 @@ fn check_records(policy: &[u8], n: usize, m: usize) -> Checked
     }
     if !all_owned(policy, n, m) {
         return refuse(policy, n, m, rule_or_4(policy, n, m, 6));
+    }
+    if m == 0 {
+        return Checked::Passed(ActionSet::EMPTY, ActionSet::EMPTY);
     }
     let mut effects = [0u64; MOST_NODES];
     let mut inserts = [0u32; MOST_NODES];

@@ -5,6 +5,7 @@ use mathlib.Core.Bool.{true, false}
 use mathlib.Core.List.{map}
 use borrow.Author.Needs.{needs}
 use borrow.Author.Tests.{eqb-true, not-true, not-false}
+use Rattle.actions.specs.Sets.{EMPTY}
 use Rattle.spec_policy.specs.Lists.{summed}
 use Rattle.spec_policy.specs.Records.{nodePlace, nodes}
 use Rattle.spec_policy.specs.Tree.{stepsOwned}
@@ -12,7 +13,9 @@ use Rattle.spec_check.specs.Children.{broken5}
 use Rattle.faults.specs.Meaning.{spotOf}
 use Rattle.check_layout.specs.Fits.{nodesFit}
 use Rattle.check_layout.proofs.Unfit.{nodes-all}
+use Rattle.check_policy.specs.Answers.{answered}
 use Rattle.check_policy.proofs.InOrder.{sought-or-4, sought-leaf, refused-node, refused-child, refused-sum, refused-leaf, leaves-kept}
+use Rattle.check_policy.proofs.NoStep.{no-step}
 use Rattle.check_policy.proofs.check_records.Statement.{statement}
 use Rattle.check_policy.proofs.check_records.Tie as tie
 
@@ -54,26 +57,31 @@ returns-3 c =
     ∙ refused-sum _ (c .before .before .before .before .before .before .before .before .before .before .pre) (nodes-kept (c .before .before .before .before .before .before)) (five-kept (c .before .before .before .before)) _ (c .before .rule-or-42 .ensures)
     _ (c .before .before .before .all-owned .ensures) (not-true _ (c .before .before .if2 .taken))
 
+-- no step, and so no leaf
+returns-4 : tie.Need-returns-4
+unfolding answered EMPTY
+returns-4 c = no-step _ (c .before .before .before .before .before .before .before .before .before .pre) (nodes-kept (c .before .before .before .before .before)) (five-kept (c .before .before .before)) (steps-owned (c .before)) (c .if3 .taken)
+
 walk-leaves-requires : tie.Need-walk-leaves-requires
-walk-leaves-requires c κs = (c .before .before .before .before .before .before .before .before .before .before .pre .frame, (nodes-kept (c .before .before .before .before .before .before), (steps-owned (c .before .before), (refl, refl))))
+walk-leaves-requires c κs = (c .before .before .before .before .before .before .before .before .before .before .before .pre .frame, (nodes-kept (c .before .before .before .before .before .before .before), (steps-owned (c .before .before .before), (refl, refl))))
 
 refuse-requires-3 : tie.Need-refuse-requires-3
 refuse-requires-3 c κs =
-    sought-leaf _ (c .before .before .before .before .before .before .before .before .before .before .before .before .before .before .pre) (nodes-kept (c .before .before .before .before .before .before .before .before .before .before)) (five-kept (c .before .before .before .before .before .before .before .before))
-    (steps-owned (c .before .before .before .before .before .before)) (c .before .before .before .walk-leaves .ensures) (c .if3 .taken)
+    sought-leaf _ (c .before .before .before .before .before .before .before .before .before .before .before .before .before .before .before .pre) (nodes-kept (c .before .before .before .before .before .before .before .before .before .before .before)) (five-kept (c .before .before .before .before .before .before .before .before .before))
+    (steps-owned (c .before .before .before .before .before .before .before)) (c .before .before .before .walk-leaves .ensures) (c .if4 .taken)
 
-returns-4 : tie.Need-returns-4
-returns-4 c =
+returns-5 : tie.Need-returns-5
+returns-5 c =
     c .refuse3 .ensures
-    ∙ refused-leaf _ (c .before .before .before .before .before .before .before .before .before .before .before .before .before .before .before .pre) (nodes-kept (c .before .before .before .before .before .before .before .before .before .before .before)) (five-kept (c .before .before .before .before .before .before .before .before .before))
-    (steps-owned (c .before .before .before .before .before .before .before)) (c .before .before .before .before .walk-leaves .ensures) (c .before .if3 .taken)
+    ∙ refused-leaf _ (c .before .before .before .before .before .before .before .before .before .before .before .before .before .before .before .before .pre) (nodes-kept (c .before .before .before .before .before .before .before .before .before .before .before .before)) (five-kept (c .before .before .before .before .before .before .before .before .before .before))
+    (steps-owned (c .before .before .before .before .before .before .before .before)) (c .before .before .before .before .walk-leaves .ensures) (c .before .if4 .taken)
 
 check-tree-requires : tie.Need-check-tree-requires
 check-tree-requires c κs =
     let found = c .before .before .before .before .before .walk-leaves .ensures in
-    let none = c .before .before .if3 .left in (
-      leaves-kept _ (c .before .before .before .before .before .before .before .before .before .before .before .before .before .before .before .before .pre) (nodes-kept (c .before .before .before .before .before .before .before .before .before .before .before .before))
-          (five-kept (c .before .before .before .before .before .before .before .before .before .before)) (steps-owned (c .before .before .before .before .before .before .before .before)) found none,
+    let none = c .before .before .if4 .left in (
+      leaves-kept _ (c .before .before .before .before .before .before .before .before .before .before .before .before .before .before .before .before .before .pre) (nodes-kept (c .before .before .before .before .before .before .before .before .before .before .before .before .before))
+          (five-kept (c .before .before .before .before .before .before .before .before .before .before .before)) (steps-owned (c .before .before .before .before .before .before .before .before .before)) found none,
       (found .effects none, found .inserts none),
     )
 
@@ -94,11 +102,12 @@ check-records-spec =
     (λ c κs. c .before .before .before .before .before .before .before .before .pre .frame)
     refuse-requires-2
     returns-3
+    returns-4
     (λ c. refl)
     (λ c. refl)
     walk-leaves-requires
     refuse-requires-3
-    returns-4
+    returns-5
     (λ c. search needs)
     (λ c. search needs)
     check-tree-requires
