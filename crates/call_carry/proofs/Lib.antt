@@ -1,1 +1,2 @@
+mod AloneLaws
 pub mod CallLaws

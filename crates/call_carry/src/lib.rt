@@ -3,8 +3,10 @@ ghost use mathlib.Core.Path.{_≡_};
 ghost use mathlib.Core.List.{[]};
 ghost use Prim.Native.Nat.{_≤_};
 ghost use lib.ListN.{length};
-ghost use Rattle.spec_policy.specs.Tree.{regulated, tree};
+ghost use Rattle.spec_policy.specs.Tree.{trivial, regulated, tree};
 ghost use Rattle.spec_check.specs.Passed.{Passed};
+ghost use Rattle.spec_turns.specs.Status.{Status, statusNumber};
+ghost use Rattle.spec_turns.specs.State.{leafOver};
 ghost use Rattle.spec_turns.specs.Turn as spec;
 ghost use Rattle.spec_turns.specs.Turn.{opening};
 ghost use Rattle.spec_turns.specs.Saved.{stateSize};
@@ -19,6 +21,7 @@ ghost use Rattle.call_carry.specs.Calls.{Counted, Allowed, Runs};
 ghost use Rattle.call_phase.specs.Phased.{itemsOf};
 ghost use Rattle.call_answer.specs.declared.Call.the-variants.{Open, Offer, Close};
 ghost use Rattle.call_answer.specs.Requests.{asked};
+ghost use Rattle.call_answer.specs.Ends.{Ended};
 ghost use Rattle.call_answer.specs.Replies.{Gave};
 use actions::ActionSet;
 use call_answer::Answer;
@@ -27,13 +30,18 @@ use call_answer::finish;
 use call_answer::put_verdict;
 use call_offer::play;
 use call_phase::run_phase;
+use file_records::Kind;
 use file_records::nodes_of;
 use file_records::steps_of;
+use file_view::view_kind;
 use turn_memory::AFTER;
 use turn_memory::CLOSING;
 use turn_memory::WORDS;
 use turn_rest::awaken::awaken;
 use turn_rest::awaken::wake;
+use turn_rest::tidy::tidy_alone;
+use turn_state::ENDED;
+use turn_state::HALTED;
 use turn_state::is_running;
 use turn_state::saved_status;
 use turn_tables::prepare;
@@ -144,7 +152,39 @@ fn carry_counted(
     }
 }
 
+// A root that is neither leaf nor pair is the whole policy, and over as it is opened: no node has a phase to run.
 fn carry_open(
+    policy: &[u8],
+    nodes: usize,
+    steps: usize,
+    state: &mut [u8],
+    events: &mut [u8],
+    counts: &mut [u32; STEP_COUNTS],
+    counting: bool,
+) -> Answer
+    requires { ⌜ Counted (now policy) nodes steps × Runs (now policy) (now state) (now events) Open ⌝ }
+    ensures { λ r. ⌜ Gave (carriedOut (now (policy .entry)) opening (now (state .entry)) (now (events .entry)))
+        r (now (state .exit)) (now (events .exit)) ⌝ }
+    ensures { λ _. ⌜ now (counts .exit) ≡ stepsIf counting (now (policy .entry))
+        (ranBy (now (policy .entry)) opening (now (state .entry))) (now (counts .entry)) ⌝ }
+{
+    let kind = view_kind(policy, 0);
+    match kind {
+        Kind::Trivial => open_alone(state, ENDED),
+        Kind::Unsatisfiable => open_alone(state, HALTED),
+        _ => open_tree(policy, nodes, steps, state, events, counts, counting),
+    }
+}
+
+fn open_alone(state: &mut [u8], status: u8) -> Answer
+    requires { ⌜ length (now state) ≡ stateSize ⌝ }
+    ensures { λ r. ⌜ ((s : Status) → status ≡ statusNumber s → Ended (trivial 0) (leafOver s) 0 r (now (state .exit))) ⌝ }
+{
+    tidy_alone(state, status);
+    Answer::Answered(0, status)
+}
+
+fn open_tree(
     policy: &[u8],
     nodes: usize,
     steps: usize,

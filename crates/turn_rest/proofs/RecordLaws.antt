@@ -136,3 +136,8 @@ module _ (s : Status) (m : Bool) {n : ℕ} (is : n ≡ statusNumber s) where
 
   pub word-bare : spell 8 (packed n 0 0 0) ≡ cell (leafWith s m 0 0)
   word-bare = spelt-bare ∙ bare-cell s m
+
+-- of a node that is the whole policy, and over
+pub word-alone : (b : ℕ) (s : Status) → b ≡ statusNumber s → spell 8 (packed b 0 0 0) ≡ cell (leafOver s)
+unfolding cell leafOver status offset counter
+word-alone b s e = ap (λ (y : ℕ). spell 8 (packed y 0 0 0)) e ∙ spell-packed (statusNumber s) 0 0 (number-less s) (omega arith) (omega arith)

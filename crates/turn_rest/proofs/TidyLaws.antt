@@ -3,21 +3,21 @@ use Prim.Native.Nat.{ℕ, zero, _+_, _-_, _*_, _<_}
 use native.Mathlib.Omega.{arith}
 use mathlib.Core.Path.{_≡_, refl, sym, ap, ap₂, _∙_, subst}
 use mathlib.Core.Bool.{Bool, true, false}
-use mathlib.Core.List.{_++_, append-nil}
-use lib.ListN.{length, take, drop, replicate, length-replicate, length-drop, drop-of-length-le}
+use mathlib.Core.List.{[], _++_, append-nil}
+use lib.ListN.{length, take, drop, replicate, length-replicate, length-drop, length-append, drop-of-length-le}
 use lib.Seq.{drop-at, length-take-le}
-use Rattle.spec_policy.specs.Bytes.{Bytes, put}
-use Rattle.spec_policy.proofs.ByteLaws.{part-before, zeros-are}
+use Rattle.spec_policy.specs.Bytes.{Bytes, spell, put}
+use Rattle.spec_policy.proofs.ByteLaws.{part-before, put-length, put-append, spell-length, zeros-are}
 use Rattle.spec_policy.specs.Records.{mostNodes, nodeCount}
 use Rattle.spec_policy.specs.Tree.{Way, Join, NodeKind, aLeaf, aTrivial, anUnsatisfiable, aPair, noNode, NodeSteps, Tree, leaf, trivial, unsatisfiable, node, numberOf, treeAt, tree}
 use Rattle.spec_check.specs.Passed.{Passed}
 use Rattle.spec_check.specs.Numbers.{shaped}
 use Rattle.spec_check.proofs.Numbers.{number-at, all-held}
 use Rattle.laws_check.proofs.LawfulTree.{lawful, numbers-below-nodes}
-use Rattle.spec_turns.specs.Status.{Status, dropped, statusOf, isRunning}
+use Rattle.spec_turns.specs.Status.{Status, dropped, statusNumber, statusOf, isRunning}
 use Rattle.spec_turns.specs.State as states
 use Rattle.spec_turns.specs.State.{State, leafState, pairState, status, offset, counter, leftOf, rightOf, leafOver, pairWith}
-use Rattle.spec_turns.specs.Saved.{cellSize, cellPlace, cell, savedCells, runningLeaves, ahead, saved, isRunningAt}
+use Rattle.spec_turns.specs.Saved.{cellSize, cellsSize, cellPlace, cell, store, savedCells, runningLeaves, ahead, saved, isRunningAt}
 use Rattle.spec_turns.specs.Rest.{gone}
 use Rattle.laws_turns.proofs.Cells.{lawful-apart, status-is, status-back, Kept, kept-same, cells-same, cells-length, cells-kept}
 use Rattle.laws_turns.proofs.Leaves.{kept-leaves, leaves-few, leaves-same, counted}
@@ -26,10 +26,11 @@ use Rattle.laws_turns.proofs.Fits.{cells-tail}
 use Rattle.laws_turns.proofs.Lasting.{in-cells}
 use Rattle.turn_paths.specs.Memory.{Cell, Mem, leafWith, held}
 use Rattle.turn_paths.proofs.Begin.{drop-held, pair-with-over, left-held, right-held}
-use Rattle.turn_memory.specs.Words.{Words, memoryOf}
+use Rattle.turn_memory.specs.Words.{Words, memoryOf, packed}
 use Rattle.turn_tables.proofs.FileNodes.{room}
 use Rattle.turn_rest.specs.Rest.{ownOf, recordAt, kindAt, runsAt}
 use Rattle.turn_rest.specs.Swept.{Swept}
+use Rattle.turn_rest.proofs.RecordLaws.{word-alone}
 use Rattle.turn_rest.proofs.SweepLaws.{leftTree, rightTree, each-root}
 
 -- what is saved of a node has its status
@@ -203,3 +204,37 @@ tidied {file} ok e {ws₀} {ws} {bs} {leaves = leaves} g h f =
 -- a count of at most 31 fits its byte
 pub few-leaves : {file : Bytes} → Passed file → {n : ℕ} → n ≡ nodeCount file → {ws₀ ws : Words} {bs : Bytes} {leaves : ℕ} → Swept file ws₀ ws bs n leaves → leaves < 256
 few-leaves {file} ok {n} e {ws = ws} g = omega (arith, e, g .counted, leaves-few file (runsAt ws) n, room ok .few)
+
+-- ---- a policy that is one node
+
+-- the record of node 0 and zeros after it are all cells
+pub alone : (bs : Bytes) {cs ds out : Bytes} (b : ℕ) (s : Status) → b ≡ statusNumber s → length bs ≡ cellsSize → cs ≡ put bs (cellPlace 0) (spell 8 (packed b 0 0 0))
+    → ds ≡ put cs (cellPlace 1) (replicate (length cs - cellPlace 1) 0) → out ≡ ahead 0 ++ ds → out ≡ saved (trivial 0) (leafOver s)
+unfolding saved savedCells store runningLeaves cellPlace put cell leafOver spell
+alone bs {cs} {ds} b s e size c d o = o ∙ ap (λ (l : Bytes). ahead 0 ++ l) (d ∙ ap₂ (λ (l : Bytes) (k : ℕ). put l 8 (replicate k 0)) c rest ∙ joined ∙ whole)
+  where
+    word : Bytes
+    word = spell 8 (packed b 0 0 0)
+
+    zeros : Bytes
+    zeros = replicate 240 0
+
+    long : length word ≡ 8
+    long = spell-length 8 (packed b 0 0 0)
+
+    rest : length cs - 8 ≡ 240
+    rest = omega (arith, ap length c, put-length bs 0 word (omega (arith, long, size)), size)
+
+    joined : put (put bs 0 word) 8 zeros ≡ put bs 0 (word ++ zeros)
+    joined = put-append bs 0 word 8 zeros (omega (arith, long)) (omega (arith, size, length-replicate {A = ℕ} 240 0))
+
+    none : drop (length (word ++ zeros)) bs ≡ []
+    none = drop-of-length-le bs {i = length (word ++ zeros)} (omega (arith, size, long, length-append word zeros, length-replicate {A = ℕ} 240 0))
+
+    whole : put bs 0 (word ++ zeros) ≡ put (replicate cellsSize 0) 0 (cell (leafOver s))
+    whole =
+        ap (λ (l : Bytes). (word ++ zeros) ++ l) none ∙ append-nil (word ++ zeros)
+        ∙ ap (λ (l : Bytes). l ++ zeros) (word-alone b s e) ∙ filled
+      where
+        filled : cell (leafOver s) ++ zeros ≡ put (replicate cellsSize 0) 0 (cell (leafOver s))
+        filled = refl

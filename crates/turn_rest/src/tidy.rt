@@ -6,9 +6,10 @@ ghost use lib.Dec.{eqb};
 ghost use lib.ListN.{length};
 ghost use Rattle.spec_policy.specs.Bytes.{spell};
 ghost use Rattle.spec_policy.specs.Records.{mostNodes, nodeSize, nodeCount, nodeAt, nodePlace};
-ghost use Rattle.spec_policy.specs.Tree.{aLeaf, tree};
+ghost use Rattle.spec_policy.specs.Tree.{aLeaf, trivial, tree};
 ghost use Rattle.spec_check.specs.Passed.{Passed};
-ghost use Rattle.spec_turns.specs.Status.{statusNumber, statusOf};
+ghost use Rattle.spec_turns.specs.Status.{Status, statusNumber, statusOf};
+ghost use Rattle.spec_turns.specs.State.{leafOver};
 ghost use Rattle.spec_turns.specs.Saved.{stateSize, cells, cell, saved};
 ghost use Rattle.turn_paths.specs.Memory.{held};
 ghost use Rattle.turn_memory.specs.Words.{wordCount, memoryOf};
@@ -113,4 +114,14 @@ pub fn tidy(policy: &[u8], n: usize, mem: &mut [u64; WORDS], state: &mut [u8])
     let leaves = sweep(policy, n, mem, state);
     clear_from(state, n);
     save_count(state, leaves);
+}
+
+// The saved state of a policy that is one node and no leaf, once that node is over: it is written as it stands, with no memory of a call.
+pub fn tidy_alone(state: &mut [u8], status: u8)
+    requires { ⌜ length (now state) ≡ stateSize ⌝ }
+    ensures { λ _. ⌜ ((s : Status) → status ≡ statusNumber s → now (state .exit) ≡ saved (trivial 0) (leafOver s)) ⌝ }
+{
+    save_word(state, 0, cell(status, 0, 0, 0));
+    clear_from(state, 1);
+    save_count(state, 0);
 }
