@@ -116,6 +116,10 @@ module _ {file : Bytes} {n m i place : ℕ} {q : Kind} (d : Read file n m i plac
     unfolding effects kindOf
     leaf-affects h = h .at i (omega arith) (kind-read file inside (d .begins) (kind-told told)) ∙ ap effects leaf-tree
 
+    pub leaf-apart : false ≡ crossed (treeAt file i)
+    unfolding crossed
+    leaf-apart = ap crossed leaf-tree
+
   module _ {w : ReadWay} {j : Join} (told : q ≡ Pair w j) {l r : ℕ} (el : l ≡ x .left) (er : r ≡ x .right) where
     pub sides : (i < l) × (l < n) × (i < r) × (r < n)
     unfolding kindOf
@@ -155,30 +159,17 @@ module _ {file : Bytes} {n m i place : ℕ} {q : Kind} (d : Read file n m i plac
         ec ∙ (λ u. isParallel (wayOf w) && (meets (q .0 u) (p .1 u) || meets (q .1 u) (p .0 u))) ∙ crossed-node (wayOf w) (treeAt file l) (treeAt file r) ∙ ap crossed pair-tree
 
   -- neither a leaf nor a pair
-  pub no-sets : OneOf (1 ∷ 2 ∷ 4 ∷ []) (tagOf the-type q) → (EMPTY ≡ regulated (treeAt file i)) × (EMPTY ≡ effects (treeAt file i))
-  unfolding kindOf shaped regulated effects
+  pub no-sets : OneOf (1 ∷ 2 ∷ 4 ∷ []) (tagOf the-type q) → (EMPTY ≡ regulated (treeAt file i)) × (EMPTY ≡ effects (treeAt file i)) × (false ≡ crossed (treeAt file i))
+  unfolding kindOf shaped regulated effects crossed
   no-sets o = go q o (tree-here refl)
     where
       go : (y : Kind) → OneOf (1 ∷ 2 ∷ 4 ∷ []) (tagOf the-type y) → treeAt file i ≡ shaped (kindOf y) i here (treeAt file (x .left)) (treeAt file (x .right))
-          → (EMPTY ≡ regulated (treeAt file i)) × (EMPTY ≡ effects (treeAt file i))
-      go Trivial o u = (sym (ap regulated u), sym (ap effects u))
-      go Unsatisfiable o u = (sym (ap regulated u), sym (ap effects u))
-      go Unknown o u = (sym (ap regulated u), sym (ap effects u))
+          → (EMPTY ≡ regulated (treeAt file i)) × (EMPTY ≡ effects (treeAt file i)) × (false ≡ crossed (treeAt file i))
+      go Trivial o u = (sym (ap regulated u), sym (ap effects u), sym (ap crossed u))
+      go Unsatisfiable o u = (sym (ap regulated u), sym (ap effects u), sym (ap crossed u))
+      go Unknown o u = (sym (ap regulated u), sym (ap effects u), sym (ap crossed u))
       go Leaf o u = absurd (miss (1 ∷ 2 ∷ 4 ∷ []) 0 tt o)
       go (Pair w j) o u = absurd (miss (1 ∷ 2 ∷ 4 ∷ []) 3 tt o)
-
-  -- no pair
-  pub alone : OneOf (0 ∷ 1 ∷ 2 ∷ 4 ∷ []) (tagOf the-type q) → false ≡ crossed (treeAt file i)
-  unfolding kindOf shaped crossed
-  alone o = go q o (tree-here refl)
-    where
-      go : (y : Kind) → OneOf (0 ∷ 1 ∷ 2 ∷ 4 ∷ []) (tagOf the-type y) → treeAt file i ≡ shaped (kindOf y) i here (treeAt file (x .left)) (treeAt file (x .right))
-          → false ≡ crossed (treeAt file i)
-      go Leaf o u = sym (ap crossed u)
-      go Trivial o u = sym (ap crossed u)
-      go Unsatisfiable o u = sym (ap crossed u)
-      go Unknown o u = sym (ap crossed u)
-      go (Pair w j) o u = absurd (miss (0 ∷ 1 ∷ 2 ∷ 4 ∷ []) 3 tt o)
 
 -- ---- rule 9
 

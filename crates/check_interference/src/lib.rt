@@ -23,9 +23,11 @@ use file_records::node_place;
 use file_records::node_right;
 use file_records::node_set;
 
+// A node's two sets, and whether it is a parallel pair whose sides interfere.
 struct NodeSets {
     regulated: ActionSet,
     effects: ActionSet,
+    crossed: bool,
 }
 
 fn union_at(sets: &[u64], left: usize, right: usize) -> ActionSet
@@ -36,43 +38,6 @@ fn union_at(sets: &[u64], left: usize, right: usize) -> ActionSet
     let b = ActionSet { bits: sets[right] };
     a.union(b)
 }
-
-// The sets of node i. The walk through a leaf has found its effect set, which its entry holds; the children of a pair come after it, and
-// have their sets.
-fn node_sets(policy: &[u8], n: usize, m: usize, i: usize, regs: &[u64], effs: &[u64]) -> NodeSets
-    requires { ⌜ Treed (now policy) n m ⌝ }
-    requires { ⌜ i < n ⌝ }
-    requires { ⌜ LeafValues leafEffects (now policy) (i + 1) (now effs) ⌝ }
-    requires { ⌜ RegulatedFrom (now policy) (i + 1) n (now regs) ⌝ }
-    requires { ⌜ EffectsFrom (now policy) (i + 1) n (now effs) ⌝ }
-    ensures { λ r. ⌜ r .regulated .bits ≡ regulated (treeAt (now (policy .entry)) i) ⌝ }
-    ensures { λ r. ⌜ r .effects .bits ≡ effects (treeAt (now (policy .entry)) i) ⌝ }
-{
-    let place = node_place(i);
-    let kind = node_kind(policy, place);
-    match kind {
-        Kind::Leaf => {
-            NodeSets {
-                regulated: node_set(policy, place),
-                effects: ActionSet { bits: effs[i] },
-            }
-        }
-        Kind::Pair(_, _) => {
-            let left = node_left(policy, place) as usize;
-            let right = node_right(policy, place) as usize;
-            NodeSets {
-                regulated: union_at(regs, left, right),
-                effects: union_at(effs, left, right),
-            }
-        }
-        _ => NodeSets {
-            regulated: ActionSet::EMPTY,
-            effects: ActionSet::EMPTY,
-        },
-    }
-}
-
-// ---- rule 9
 
 // What node i effects, node j regulates.
 fn meets_at(effects: &[u64], i: usize, regulated: &[u64], j: usize) -> bool
@@ -96,30 +61,43 @@ fn interfere(way: Way, left: usize, right: usize, regulated: &[u64], effects: &[
     }
 }
 
-// Node i is a parallel pair, and its sides interfere. They come after it, and have their sets.
-fn node_crossed(
-    policy: &[u8],
-    n: usize,
-    m: usize,
-    i: usize,
-    regulated: &[u64],
-    effects: &[u64],
-) -> bool
+// The sets of node i, and rule 9 of it, by one match of its kind. The walk through a leaf has found its effect set, which its entry holds; the children
+// of a pair come after it, and have their sets.
+fn node_sets(policy: &[u8], n: usize, m: usize, i: usize, regs: &[u64], effs: &[u64]) -> NodeSets
     requires { ⌜ Treed (now policy) n m ⌝ }
     requires { ⌜ i < n ⌝ }
-    requires { ⌜ RegulatedFrom (now policy) (i + 1) n (now regulated) ⌝ }
-    requires { ⌜ EffectsFrom (now policy) (i + 1) n (now effects) ⌝ }
-    ensures { λ r. ⌜ r ≡ crossed (treeAt (now (policy .entry)) i) ⌝ }
+    requires { ⌜ LeafValues leafEffects (now policy) (i + 1) (now effs) ⌝ }
+    requires { ⌜ RegulatedFrom (now policy) (i + 1) n (now regs) ⌝ }
+    requires { ⌜ EffectsFrom (now policy) (i + 1) n (now effs) ⌝ }
+    ensures { λ r. ⌜ r .regulated .bits ≡ regulated (treeAt (now (policy .entry)) i) ⌝ }
+    ensures { λ r. ⌜ r .effects .bits ≡ effects (treeAt (now (policy .entry)) i) ⌝ }
+    ensures { λ r. ⌜ r .crossed ≡ crossed (treeAt (now (policy .entry)) i) ⌝ }
 {
     let place = node_place(i);
     let kind = node_kind(policy, place);
     match kind {
+        Kind::Leaf => {
+            NodeSets {
+                regulated: node_set(policy, place),
+                effects: ActionSet { bits: effs[i] },
+                crossed: false,
+            }
+        }
         Kind::Pair(way, _) => {
             let left = node_left(policy, place) as usize;
             let right = node_right(policy, place) as usize;
-            interfere(way, left, right, regulated, effects)
+            let crossed = interfere(way, left, right, regs, effs);
+            NodeSets {
+                regulated: union_at(regs, left, right),
+                effects: union_at(effs, left, right),
+                crossed,
+            }
         }
-        _ => false,
+        _ => NodeSets {
+            regulated: ActionSet::EMPTY,
+            effects: ActionSet::EMPTY,
+            crossed: false,
+        },
     }
 }
 
@@ -137,11 +115,10 @@ pub fn wrong9(policy: &[u8], n: usize, m: usize, regulated: &mut [u64], effects:
     let mut i = n;
     while i > 0 {
         i -= 1;
-        let crossed = node_crossed(policy, n, m, i, regulated, effects);
         let sets = node_sets(policy, n, m, i, regulated, effects);
         regulated[i] = sets.regulated.bits;
         effects[i] = sets.effects.bits;
-        if crossed {
+        if sets.crossed {
             found = on_record(i);
         }
     }

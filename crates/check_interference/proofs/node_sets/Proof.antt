@@ -7,7 +7,7 @@ use borrow.Author.Needs.{needs}
 use Rattle.actions.specs.Sets.{EMPTY}
 use Rattle.spec_policy.specs.Records.{nodeSize}
 use Rattle.check_layout.proofs.Frame.{node-inside}
-use Rattle.check_interference.proofs.TreeSets.{Read, leaf-regulated, leaf-affects, sides, pair-regulated, pair-affects, no-sets}
+use Rattle.check_interference.proofs.TreeSets.{Read, leaf-regulated, leaf-affects, leaf-apart, sides, pair-regulated, pair-affects, pair-crossed, no-sets}
 use Rattle.check_interference.proofs.node_sets.Statement.{statement}
 use Rattle.check_interference.proofs.node_sets.Tie as tie
 
@@ -26,8 +26,8 @@ read c =
 
 -- ---- a leaf
 
-shared-slice-read-t15 : tie.Need-shared-slice-read-t15
-shared-slice-read-t15 c =
+shared-slice-read-t17 : tie.Need-shared-slice-read-t17
+shared-slice-read-t17 c =
     let h = start (c .before .before .before .before .before) .pre in
     let f = h .0 .frame in
     omega (arith, h .1 .0, h .1 .1 .0 .room)
@@ -36,40 +36,50 @@ returns : tie.Need-returns
 returns c =
     let b = c .before .before .before .before in
     let told = c .before .before .enum-told .given .1 in
-    (leaf-regulated (read b) told (c .before .node-set .ensures), leaf-affects (read b) told (start (b .before) .pre .1 .1 .0))
+    (leaf-regulated (read b) told (c .before .node-set .ensures), (leaf-affects (read b) told (start (b .before) .pre .1 .1 .0), leaf-apart (read b) told))
 
 -- ---- a pair
 
-union-at-requires : tie.Need-union-at-requires
-union-at-requires c κs =
-    let b = c .before .before .before .before in
+interfere-requires : tie.Need-interfere-requires
+interfere-requires c κs =
+    let b = c .before .before .before .before .before in
     let s = start (b .before) .pre .1 .1 .1 in
     let f = start (b .before) .pre .0 .frame in
-    let k = sides (read b) (c .before .before .enum-told2 .given .1) (c .before .node-left .ensures) (c .node-right .ensures) in
+    let k = sides (read b) (c .before .before .before .kind .given .1) (c .before .node-left .ensures) (c .node-right .ensures) in
+    omega (arith, s .0 .room, s .1 .room)
+
+union-at-requires : tie.Need-union-at-requires
+union-at-requires c κs =
+    let b = c .before .before .before .before .before .before in
+    let s = start (b .before) .pre .1 .1 .1 in
+    let f = start (b .before) .pre .0 .frame in
+    let k = sides (read b) (c .before .before .before .before .kind .given .1) (c .before .before .node-left .ensures) (c .before .node-right .ensures) in
     omega (arith, s .0 .room)
 
 union-at-requires-2 : tie.Need-union-at-requires-2
 union-at-requires-2 c κs =
-    let b = c .before .before .before .before .before in
+    let b = c .before .before .before .before .before .before .before in
     let s = start (b .before) .pre .1 .1 .1 in
     let f = start (b .before) .pre .0 .frame in
-    let k = sides (read b) (c .before .before .before .enum-told2 .given .1) (c .before .before .node-left .ensures) (c .before .node-right .ensures) in
+    let k = sides (read b) (c .before .before .before .before .before .kind .given .1) (c .before .before .before .node-left .ensures) (c .before .before .node-right .ensures) in
     omega (arith, s .1 .room)
 
 returns-2 : tie.Need-returns-2
 returns-2 c =
-    let b = c .before .before .before .before .before .before in
-    let told = c .before .before .before .before .enum-told2 .given .1 in
-    let l = c .before .before .before .node-left .ensures in
-    let r = c .before .before .node-right .ensures in
-    let h = start (b .before) .pre .1 .1 .1 in
-    (c .before .union-at .ensures ∙ pair-regulated (read b) told l r (h .0), c .union-at2 .ensures ∙ pair-affects (read b) told l r (h .1))
+    let b = c .before .before .before .before .before .before .before .before in
+    let told = c .before .before .before .before .before .before .kind .given .1 in
+    let l = c .before .before .before .before .node-left .ensures in
+    let r = c .before .before .before .node-right .ensures in
+    let h = start (b .before) .pre .1 .1 .1 in (
+      c .before .union-at .ensures ∙ pair-regulated (read b) told l r (h .0),
+      (c .union-at2 .ensures ∙ pair-affects (read b) told l r (h .1), pair-crossed (read b) told l r (h .0) (h .1) _ (c .before .before .interfere .ensures)),
+    )
 
 -- ---- neither
 
 returns-3 : tie.Need-returns-3
 unfolding EMPTY
-returns-3 c = no-sets (read (c .before)) (c .match .keys3)
+returns-3 c = let e = no-sets (read (c .before)) (c .match .keys3) in (e .0, (e .1, e .2))
 
 pub node-sets-spec : {M : Type 1} → statement M
 node-sets-spec =
@@ -80,12 +90,13 @@ node-sets-spec =
     (λ c. search needs)
     (λ c κs. inside (c .before .before .before))
     (λ c. search needs)
-    shared-slice-read-t15
-    (λ c. search needs)
-    (λ c κs. inside (c .before .before .before))
+    shared-slice-read-t17
     (λ c. search needs)
     (λ c κs. inside (c .before .before .before .before))
     (λ c. search needs)
+    (λ c κs. inside (c .before .before .before .before .before))
+    (λ c. search needs)
+    interfere-requires
     union-at-requires
     union-at-requires-2
     returns

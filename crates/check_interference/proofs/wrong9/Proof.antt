@@ -37,7 +37,7 @@ module _ (c : tie.In-loop Inv-loop μ-loop) where
 -- node i has its two sets
 module _ (c : tie.After-node-sets Inv-loop μ-loop) where
   abbrev turn : tie.In-loop Inv-loop μ-loop
-  turn = c .before .before .before .before .before .before
+  turn = c .before .before .before
 
   abbrev i : ℕ
   i = turn .before .loop .i - 1
@@ -46,50 +46,44 @@ module _ (c : tie.After-node-sets Inv-loop μ-loop) where
   regulates = filled-more (below turn) (start (turn .before) .pre .0 .frame .few-nodes) (filled-as (up turn) (turn .before .loop .inv .1)) (c .node-sets .ensures .0)
 
   affects : EffectsFrom (start (turn .before) .args .policy .now) i (start (turn .before) .args .n) (set (turn .before .loop .effects) i (c .node-sets .result .effects .bits))
-  affects = filled-more (below turn) (start (turn .before) .pre .0 .frame .few-nodes) (filled-as (up turn) (turn .before .loop .inv .2)) (c .node-sets .ensures .1)
+  affects = filled-more (below turn) (start (turn .before) .pre .0 .frame .few-nodes) (filled-as (up turn) (turn .before .loop .inv .2)) (c .node-sets .ensures .1 .0)
 
 loop-holds : tie.Need-loop-holds Inv-loop μ-loop
 unfolding spotOf
 loop-holds c = let p = c .before .before .before .pre .1 in (omega arith, filled-none _ (p .1), filled-none _ (p .0 .room), p .0, crossed-none _ _)
 
-node-crossed-requires : tie.Need-node-crossed-requires Inv-loop μ-loop
-node-crossed-requires c κs =
-    let b = c .before .before in
-    let l = b .before .loop .inv in
-    (start (b .before) .pre .0, (below b, (filled-as (up b) (l .1), filled-as (up b) (l .2))))
-
 node-sets-requires : tie.Need-node-sets-requires Inv-loop μ-loop
 node-sets-requires c κs =
-    let b = c .before .before .before .before .before in
+    let b = c .before .before in
     let l = b .before .loop .inv in
     (start (b .before) .pre .0, (below b, (held-as (up b) (l .3), (filled-as (up b) (l .1), filled-as (up b) (l .2)))))
 
 mul-regulated : tie.Need-mul-regulated Inv-loop μ-loop
-mul-regulated c = omega (arith, room (c .before .before .before .before .before .before))
+mul-regulated c = omega (arith, room (c .before .before .before))
 
 slice-write-regulated : tie.Need-slice-write-regulated Inv-loop μ-loop
-slice-write-regulated c = let b = c .before .before .before .before .before .before in omega (arith, room b, b .before .loop .inv .1 .room)
+slice-write-regulated c = let b = c .before .before .before in omega (arith, room b, b .before .loop .inv .1 .room)
 
 mul-effects : tie.Need-mul-effects Inv-loop μ-loop
-mul-effects c = omega (arith, room (c .before .before .before .before .before .before))
+mul-effects c = omega (arith, room (c .before .before .before))
 
 slice-write-effects : tie.Need-slice-write-effects Inv-loop μ-loop
-slice-write-effects c = let b = c .before .before .before .before .before .before in omega (arith, room b, b .before .loop .inv .2 .room)
+slice-write-effects c = let b = c .before .before .before in omega (arith, room b, b .before .loop .inv .2 .room)
 
 on-record-requires : tie.Need-on-record-requires Inv-loop μ-loop
-on-record-requires c κs = omega (arith, room (c .before .before .before .before .before .before .before))
+on-record-requires c κs = omega (arith, room (c .before .before .before .before))
 
 loop-again : tie.Need-loop-again Inv-loop μ-loop
 loop-again c =
-    let b = c .before .before .before .before .before .before .before .before in
+    let b = c .before .before .before .before .before in
     let d = c .before .before in
-    (omega (arith, below b), regulates d, affects d, held-less _ (held-as (up b) (b .before .loop .inv .3)), c .on-record .ensures ∙ crossed-found _ _ (below b) (c .before .before .before .before .before .node-crossed .ensures) (c .before .if1 .taken))
+    (omega (arith, below b), regulates d, affects d, held-less _ (held-as (up b) (b .before .loop .inv .3)), c .on-record .ensures ∙ crossed-found _ _ (below b) (c .before .before .node-sets .ensures .1 .1) (c .before .if1 .taken))
 
 loop-again-2 : tie.Need-loop-again-2 Inv-loop μ-loop
 loop-again-2 c =
-    let b = c .before .before .before .before .before .before .before in
+    let b = c .before .before .before .before in
     let d = c .before in
-    (omega (arith, below b), regulates d, affects d, held-less _ (held-as (up b) (b .before .loop .inv .3)), b .before .loop .inv .4 ∙ ap (crossedFrom _ _) (up b) ∙ crossed-kept _ _ (below b) (c .before .before .before .before .node-crossed .ensures) (c .if1 .left))
+    (omega (arith, below b), regulates d, affects d, held-less _ (held-as (up b) (b .before .loop .inv .3)), b .before .loop .inv .4 ∙ ap (crossedFrom _ _) (up b) ∙ crossed-kept _ _ (below b) (c .before .node-sets .ensures .1 .1) (c .if1 .left))
 
 same-length : tie.Need-same-length Inv-loop μ-loop
 same-length c = omega (arith, c .before .loop .inv .1 .room, start (c .before) .pre .1 .1)
@@ -112,7 +106,6 @@ wrong9-spec =
     μ-loop
     loop-holds
     (λ c. omega arith)
-    node-crossed-requires
     node-sets-requires
     mul-regulated
     slice-write-regulated
