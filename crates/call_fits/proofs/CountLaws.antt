@@ -4,12 +4,15 @@ use native.Mathlib.Omega.{arith}
 use mathlib.Core.Path.{_≡_, refl, sym, ap, _∙_}
 use mathlib.Core.Bool.{Bool, true, false, _&&_}
 use lib.Dec.{eqb}
+use borrow.Author.Tests.{eq-eqb}
 use Rattle.spec_policy.specs.Bytes.{Bytes, number}
 use Rattle.spec_policy.specs.Lists.{one}
 use Rattle.spec_policy.specs.Records.{mostNodes, nodeCount, nodeAt, nodePlace}
-use Rattle.spec_policy.specs.Tree.{nodeKind, tree}
+use Rattle.spec_policy.specs.Tree.{NodeKind, aLeaf, aTrivial, anUnsatisfiable, aPair, noNode, nodeKind, tree}
 use Rattle.spec_check.specs.Passed.{Passed}
 use Rattle.spec_turns.specs.Status.{statusOf, isRunning}
+use Rattle.spec_turns.proofs.StatusLaws.{running-one, not-running}
+use Rattle.check_leaves.proofs.LeafLaws.{Counted}
 use Rattle.spec_turns.specs.Saved.{countPlace, cells, statusAt, isRunningAt, countAt, countFits}
 use Rattle.laws_turns.specs.Leaves.{isLeaf, leafWorth, leavesBelow}
 use Rattle.laws_turns.proofs.Leaves.{leaves-few, leaves-more, counted}
@@ -37,6 +40,33 @@ module _ (file bs : Bytes) (n : ℕ) where
       let z : i - 1 + 1 ≡ i = omega arith in
       let m : below (i - 1) + leafWorth file (isRunningAt bs) (i - 1) ≡ below i = leaves-more file (isRunningAt bs) (i - 1) ∙ ap below z in
       omega (arith, h, w, m)
+
+-- ---- a node's part
+
+pub runs-one : (s : ℕ) → s ≡ 1 → 1 ≡ one (isRunning (statusOf s))
+unfolding one
+runs-one s e = sym (ap one (sym (running-one s) ∙ eq-eqb s 1 e))
+
+pub rests-none : (s : ℕ) → (s ≡ 1 → ⊥) → 0 ≡ one (isRunning (statusOf s))
+unfolding one
+rests-none s h = sym (ap one (not-running s h))
+
+-- by the number of its steps: a leaf has steps, and no other node has
+module _ {file : Bytes} {i count : ℕ} (c : Counted file i count) (runs : Bool) where
+  pub leaf-adds : 1 ≤ count → one runs ≡ one (isLeaf (nodeKind (nodeAt file (nodePlace i) .kind)) && runs)
+  unfolding isLeaf
+  leaf-adds h = ap (λ (k : NodeKind). one (isLeaf k && runs)) (c .leaf h)
+
+  pub other-adds : count ≤ 0 → 0 ≡ one (isLeaf (nodeKind (nodeAt file (nodePlace i) .kind)) && runs)
+  unfolding isLeaf one
+  other-adds h = go (nodeKind (nodeAt file (nodePlace i) .kind)) (c .other (omega (arith, h)))
+    where
+      go : (k : NodeKind) → (k ≡ aLeaf → ⊥) → 0 ≡ one (isLeaf k && runs)
+      go aLeaf h = absurd (h refl)
+      go aTrivial h = refl
+      go anUnsatisfiable h = refl
+      go (aPair w j) h = refl
+      go noNode h = refl
 
 -- all of them
 pub leaves-counted : {file : Bytes} → Passed file → (state : Bytes) (n count i : ℕ) → n ≡ nodeCount file → i ≤ 0 → LeavesFrom file (cells state) n count i

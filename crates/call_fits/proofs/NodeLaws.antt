@@ -4,14 +4,14 @@ use mathlib.Core.Path.{_≡_, refl, sym, ap, _∙_}
 use mathlib.Core.Bool.{Bool, true, false, _&&_, _||_, not, Bool·beq}
 use mathlib.Core.List.{List, [], _∷_}
 use lib.Dec.{eqb}
-use borrow.Author.Tests.{ne-eqb, eq-eqb}
+use borrow.Author.Tests.{ne-eqb, eq-eqb, eqb-true}
 use Rattle.actions.specs.Sets.{ActionSet}
-use Rattle.actions.proofs.Tests.{and-true}
+use Rattle.actions.proofs.Tests.{and-true, and-first, and-second}
 use Rattle.spec_policy.specs.Bytes.{Bytes}
 use Rattle.spec_policy.specs.Lists.{among}
 use Rattle.spec_policy.specs.Steps.{Step}
 use Rattle.spec_policy.specs.Tree.{Way, Join, and, or, Tree, leaf, trivial, unsatisfiable, node, numberOf}
-use Rattle.spec_turns.specs.Status.{statusOf, isRunning}
+use Rattle.spec_turns.specs.Status.{statusOf, isRunning, hasEnded, isHalted}
 use Rattle.spec_turns.specs.Saved.{statusAt, droppedWith, isRunningAt, statuses, undecided, bare, waitsAt, fitsUnder}
 use Rattle.call_fits.specs.Alone.{fitsAlone}
 use Rattle.call_fits.proofs.StatusLaws.{or-three}
@@ -112,6 +112,17 @@ pub sides-running : (j : Join) (running : Bool) (l r : ℕ) (u : Bool) → runni
     → (u && not (eqb l 6) && not (eqb r 6)) ≡ sides j running l r
 sides-running j running l r u t e =
     (λ k. e k && not-same (eqb l 6) k && not-same (eqb r 6) k) ∙ sym (ap (λ (b : Bool). sides j b l r) t)
+
+pub sides-run : (j : Join) (running : Bool) (l r : ℕ) → running ≡ true → (eqb l 1 && eqb r 1) ≡ true → true ≡ sides j running l r
+unfolding undecided statusOf isHalted hasEnded
+sides-run j running l r t e =
+    let el : l ≡ 1 = eqb-true l 1 (and-first (eqb l 1) (eqb r 1) e) in
+    let er : r ≡ 1 = eqb-true r 1 (and-second (eqb l 1) (eqb r 1) e) in
+    both j ∙ λ k. sides j (sym t k) (sym el k) (sym er k)
+  where
+    both : (j : Join) → true ≡ sides j true 1 1
+    both and = refl
+    both or = refl
 
 pub sides-over : (j : Join) (running : Bool) (l r : ℕ) → running ≡ false → (eqb l 6 && eqb r 6) ≡ sides j running l r
 sides-over j running l r t = (λ k. is-same (eqb l 6) k && is-same (eqb r 6) k) ∙ sym (ap (λ (b : Bool). sides j b l r) t)

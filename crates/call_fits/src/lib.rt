@@ -5,14 +5,14 @@ ghost use Prim.Native.Nat.{ℕ, _+_, _*_, _≤_, _<_};
 ghost use lib.Dec.{eqb};
 ghost use lib.ListN.{length, getD};
 ghost use Rattle.actions.specs.Sets.{ActionSet};
-ghost use Rattle.spec_policy.specs.Lists.{among};
+ghost use Rattle.spec_policy.specs.Lists.{one, among};
 ghost use Rattle.spec_policy.specs.Records.{mostNodes, nodeCount, stepCount, nodeAt, nodePlace, mostLeafSteps};
 ghost use Rattle.spec_policy.specs.Tree as spec;
 ghost use Rattle.spec_policy.specs.Tree.{firstStep, treeAt};
 ghost use Rattle.spec_check.specs.Passed.{Passed};
 ghost use Rattle.file_records.specs.Kinds.{joinOf};
 ghost use Rattle.file_records.specs.Code.{codeFrom, StepsIn};
-ghost use Rattle.spec_turns.specs.Status.{statusOf};
+ghost use Rattle.spec_turns.specs.Status.{statusOf, isRunning};
 ghost use Rattle.spec_turns.specs.Saved.{stateSize, cells, statuses, undecided, bare, waitsAt, fitsUnder, zerosUpTo, countFits, fits};
 ghost use Rattle.call_fits.specs.Alone.{fitsAlone};
 use file_records::Join;
@@ -35,7 +35,6 @@ use turn_state::has_ended;
 use turn_state::is_ahead;
 use turn_state::is_empty_from;
 use turn_state::is_halted;
-use turn_state::running_leaf;
 use turn_state::saved_counter;
 use turn_state::saved_offset;
 use turn_state::saved_status;
@@ -90,12 +89,16 @@ fn undecided(join: Join, l: u8, r: u8) -> bool
     }
 }
 
-// The sides of a running node have not decided it and are not dropped; those of any other node are dropped.
+// The sides of a running node have not decided it and are not dropped; those of any other node are dropped. Sides that both run, which most do, are
+// neither.
 fn sides_fit(join: Join, running: bool, l: u8, r: u8) -> bool
     ensures { λ b. ⌜ b ≡ ((not running || undecided (joinOf join) (statusOf l) (statusOf r))
         && Bool·beq (eqb l 6) (not running) && Bool·beq (eqb r 6) (not running)) ⌝ }
 {
     if running {
+        if (l == RUNNING) & (r == RUNNING) {
+            return true;
+        }
         undecided(join, l, r) & (l != DROPPED) & (r != DROPPED)
     } else {
         (l == DROPPED) & (r == DROPPED)
@@ -187,8 +190,18 @@ fn node_fits(
 
 // ---- the state
 
-// The nodes, and the count of those that are running leaves. By rule 4 only a leaf counts steps, so each node's count moves back to where its
-// own steps begin.
+// What a leaf adds to the count of running leaves.
+fn one_if_running(status: u8) -> u64
+    ensures { λ r. ⌜ r ≡ one (isRunning (statusOf status)) ⌝ }
+{
+    if status == RUNNING {
+        return 1;
+    }
+    0
+}
+
+// The nodes, and the count of those that are running leaves. By rule 4 only a leaf counts steps, so each node's count tells whether it is one, and moves
+// back to where its own steps begin.
 fn tree_fits(policy: &[u8], n: usize, m: usize, state: &[u8]) -> bool
     requires { ⌜ Passed (now policy) × (n ≡ nodeCount (now policy)) × (m ≡ stepCount (now policy)) ⌝ }
     requires { ⌜ length (now state) ≡ stateSize ⌝ }
@@ -204,7 +217,9 @@ fn tree_fits(policy: &[u8], n: usize, m: usize, state: &[u8]) -> bool
         let count = view_count(policy, i) as usize;
         first -= count;
         fit[i] = node_fits(policy, i, first, count, state, &fit);
-        leaves += running_leaf(policy, i, saved_status(state, i));
+        if count > 0 {
+            leaves += one_if_running(saved_status(state, i));
+        }
     }
     fit[0] & (saved_status(state, 0) != DROPPED) & is_ahead(state, leaves)
 }

@@ -2,6 +2,7 @@
 -- nodes, and `leaves` of them are leaves that run.
 use Prim.Native.Nat.{ℕ, _+_, _-_, _≤_, _<_}
 use native.Mathlib.Omega.{arith}
+use borrow.Author.Needs.{needs}
 use mathlib.Core.Path.{_≡_, refl, sym, ap₂, _∙_}
 use mathlib.Core.Bool.{Bool, _&&_}
 use lib.Dec.{lit<}
@@ -11,9 +12,10 @@ use Rattle.spec_policy.specs.Records.{nodeCount}
 use Rattle.spec_policy.specs.Tree.{firstStep}
 use Rattle.spec_policy.proofs.NodeLaws.{first-over}
 use Rattle.spec_check.proofs.Rows.{all-owned}
+use Rattle.check_leaves.proofs.LeafLaws.{Counted}
 use Rattle.call_fits.proofs.FileLaws.{frame, in-view, counts, step-back}
 use Rattle.spec_turns.specs.Saved.{cells}
-use Rattle.call_fits.proofs.CountLaws.{LeavesFrom, leaves-from-none, leaves-from-few, leaves-from-more, leaves-counted}
+use Rattle.call_fits.proofs.CountLaws.{LeavesFrom, leaves-from-none, leaves-from-few, leaves-from-more, leaf-adds, other-adds, leaves-counted}
 use Rattle.call_fits.proofs.TreeLaws.{Known, known-more, root}
 use Rattle.call_fits.proofs.tree_fits.Statement.{statement}
 use Rattle.call_fits.proofs.tree_fits.Tie as tie
@@ -95,28 +97,37 @@ array-write-fit c = let d = c .before .before in omega (arith, below d, frame (s
 -- ---- its part of the count
 
 saved-status-requires : tie.Need-saved-status-requires Inv-loop μ-loop
-saved-status-requires c κs = let d = c .before .before in (start d .pre .1, omega (arith, below d, frame (start d .pre .0 .0)))
+saved-status-requires c κs = let d = c .before .before .before in (start d .pre .1, omega (arith, below d, frame (start d .pre .0 .0)))
 
-running-leaf-requires : tie.Need-running-leaf-requires Inv-loop μ-loop
-running-leaf-requires c κs = let d = c .before .before .before in in-view (start d .pre .0 .0) _ _ (below d) refl
+-- its steps tell whether it is a leaf
+counted-here : (c : tie.After-view-count Inv-loop μ-loop) → Counted (file c) (now-i c - 1) (c .view-count .result)
+counted-here c = counts (start c .pre .0 .0) _ _ (below c) refl _ (c .view-count .ensures)
 
-module _ (c : tie.After-running-leaf Inv-loop μ-loop) where
+module _ (c : tie.After-one-if-running Inv-loop μ-loop) where
   abbrev turn : tie.After-view-count Inv-loop μ-loop
-  turn = c .before .before .before .before
+  turn = c .before .before .before .before .before
 
-  more : LeavesFrom (file turn) (cells (start turn .args .state .now)) (start turn .args .n) (turn .before .before .loop .leaves + c .running-leaf .result) (now-i turn - 1)
+  more : LeavesFrom (file turn) (cells (start turn .args .state .now)) (start turn .args .n) (turn .before .before .loop .leaves + c .one-if-running .result) (now-i turn - 1)
   more =
       let l = turn .before .before .loop in
-      leaves-from-more _ _ _ (l .leaves) (l .i) _ _ (omega arith) (l .inv .4) (c .before .saved-status .ensures) (c .running-leaf .ensures)
+      leaves-from-more _ _ _ (l .leaves) (l .i) _ _ (omega arith) (l .inv .4) (c .before .saved-status .ensures)
+      (c .one-if-running .ensures ∙ leaf-adds (counted-here turn) _ (c .before .before .if1 .taken))
 
 add-leaves : tie.Need-add-leaves Inv-loop μ-loop
 add-leaves c =
     let d = turn c in
     let l = d .before .before .loop in
-    omega (arith, start d .pre .0 .1, frame (start d .pre .0 .0), leaves-from-few _ _ _ (l .leaves + c .running-leaf .result) (l .i - 1) (more c))
+    omega (arith, start d .pre .0 .1, frame (start d .pre .0 .0), leaves-from-few _ _ _ (l .leaves + c .one-if-running .result) (l .i - 1) (more c))
 
-loop-less : tie.Need-loop-less Inv-loop μ-loop
-loop-less c = omega arith
+-- a node that is no leaf adds nothing
+module _ (c : tie.Else1 Inv-loop μ-loop) where
+  abbrev past : tie.After-view-count Inv-loop μ-loop
+  past = c .before .before .before
+
+  no-more : LeavesFrom (file past) (cells (start past .args .state .now)) (start past .args .n) (past .before .before .loop .leaves) (now-i past - 1)
+  no-more =
+      let l = past .before .before .loop in
+      omega (arith, leaves-from-more _ (cells (start past .args .state .now)) _ (l .leaves) (l .i) _ 0 (omega arith) (l .inv .4) refl (other-adds (counted-here past) _ (c .if1 .left)))
 
 loop-again : tie.Need-loop-again Inv-loop μ-loop
 loop-again c =
@@ -125,8 +136,19 @@ loop-again c =
       omega (arith, l .inv .0),
       omega (arith, back d, l .inv .1),
       simp length-set (l .inv .2),
-      known-more _ _ _ (l .fit) (l .i) _ (omega arith) (omega (arith, below d, frame (start d .pre .0 .0), l .inv .2)) (l .inv .3) (c .before .before .node-fits .ensures),
+      known-more _ _ _ (l .fit) (l .i) _ (omega arith) (omega (arith, below d, frame (start d .pre .0 .0), l .inv .2)) (l .inv .3) (c .before .before .before .node-fits .ensures),
       more c,
+    )
+
+loop-again-2 : tie.Need-loop-again-2 Inv-loop μ-loop
+loop-again-2 c =
+    let d = past c in
+    let l = d .before .before .loop in (
+      omega (arith, l .inv .0),
+      omega (arith, back d, l .inv .1),
+      simp length-set (l .inv .2),
+      known-more _ _ _ (l .fit) (l .i) _ (omega arith) (omega (arith, below d, frame (start d .pre .0 .0), l .inv .2)) (l .inv .3) (c .before .node-fits .ensures),
+      no-more c,
     )
 
 -- ---- the root, and the count
@@ -167,10 +189,12 @@ tree-fits-spec =
     node-fits-requires
     array-write-fit
     saved-status-requires
-    running-leaf-requires
+    (λ c κs. search needs)
     add-leaves
-    loop-less
+    (λ c. omega arith)
     loop-again
+    (λ c. omega arith)
+    loop-again-2
     array-read-result
     saved-status-requires-2
     is-ahead-requires
