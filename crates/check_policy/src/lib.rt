@@ -70,7 +70,13 @@ fn refuse(policy: &[u8], n: usize, m: usize, rule: u8) -> Checked
 }
 
 // Rules 9 and 10, and the answer. What the leaves' walks have found is in `effects` and `inserts`.
-fn check_tree(policy: &[u8], n: usize, m: usize, effects: &mut [u64], inserts: &[u32]) -> Checked
+fn check_tree(
+    policy: &[u8],
+    n: usize,
+    m: usize,
+    effects: &mut [u64],
+    inserts: &mut [u32],
+) -> Checked
     requires { ⌜ LeavesKept (now policy) n m ⌝ }
     requires { ⌜ LeafValues leafEffects (now policy) n (now effects) ⌝ }
     requires { ⌜ LeafValues insertsIn (now policy) n (now inserts) ⌝ }
@@ -116,7 +122,7 @@ fn check_records(policy: &[u8], n: usize, m: usize) -> Checked
     if rule != 0 {
         return refuse(policy, n, m, rule);
     }
-    check_tree(policy, n, m, &mut effects, &inserts)
+    check_tree(policy, n, m, &mut effects, &mut inserts)
 }
 
 pub fn check(policy: &[u8]) -> Checked

@@ -13,7 +13,7 @@ use borrow.Author.Tests.{leb-true, leb-false, le-leb, lt-leb, eqb-true, eqb-fals
 use Rattle.spec_policy.specs.Bytes.{Bytes}
 use Rattle.spec_policy.specs.Records.{Node, nodeAt, mostNodes, nodePlace, nodeCount}
 use Rattle.spec_policy.specs.Steps.{Step, isIns}
-use Rattle.spec_policy.specs.Tree.{Way, parallel, sequential, NodeKind, aLeaf, aTrivial, anUnsatisfiable, aPair, noNode, nodeKind, nodesWithSteps}
+use Rattle.spec_policy.specs.Tree.{Way, parallel, sequential, NodeKind, aLeaf, nodeKind, nodesWithSteps}
 use Rattle.spec_policy.specs.Spots.{Spot, nowhere, onRecord, firstOff}
 use Rattle.spec_policy.proofs.FirstLoop.{firstFrom, none-from, found-from, kept-from, all-from}
 use Rattle.spec_check.specs.Spread.{insCount, spreadOf, spread, wrong10}
@@ -21,15 +21,22 @@ use Rattle.spec_check.specs.Layout.{broken4}
 use Rattle.spec_check.specs.Children.{broken5}
 use Rattle.spec_check.specs.Targets.{broken6}
 use Rattle.spec_check.specs.Numbers.{nodeStepsIn, shaped}
-use Rattle.spec_check.proofs.Numbers.{kind-read, tree-read, children-read}
+use Rattle.spec_check.proofs.Numbers.{ChildrenLater, kind-read, tree-read, children-read}
 use Rattle.spec_check.proofs.Rows.{leaf-steps}
 use Rattle.spec_policy.specs.Tree.{treeAt}
+use types.Run.{OneOf, miss}
+use denote.Enum.Declared.{tagOf}
+use Rattle.file_records.specs.Kinds.{wayOf, kindOf}
+use Rattle.file_records.specs.declared.Way.{Way as ReadWay}
+use Rattle.file_records.specs.declared.Join.{Join}
+use Rattle.file_records.specs.declared.Kind.{Kind}
+use Rattle.file_records.specs.declared.Kind.the-variants.{Leaf, Trivial, Unsatisfiable, Pair, Unknown}
+use Rattle.file_records.proofs.Kind.{the-type}
 use Rattle.check_layout.specs.Frame.{Framed}
 use Rattle.check_layout.proofs.Frame.{node-list}
 use Rattle.check_leaves.specs.Leaves.{insertsIn, LeafValues}
-use Rattle.check_spread.specs.Spreads.{cap, capped, cappedBy, cappedNode, Kept, KeptFrom}
-use Rattle.spec_policy.specs.Lists.{listed}
-use Rattle.spec_policy.proofs.ListLaws.{all-zero, one-most}
+use Rattle.check_spread.specs.Spreads.{cap, capped, KeptFrom}
+use Rattle.spec_policy.proofs.ListLaws.{one-most}
 
 -- ---- numbers
 
@@ -126,48 +133,60 @@ unfolding insCount
 ins-few [] = omega arith
 ins-few (s ∷ ss) = omega (arith, one-most (isIns s), ins-few ss)
 
+-- ---- entries
+
+-- what is kept of a node is at most 256
+pub kept-most : {file : Bytes} {n i : ℕ} {caps : List ℕ} → KeptFrom file n i caps → (k : ℕ) → i ≤ k → k < n → getD caps k 0 ≤ 256
+unfolding capped
+kept-most {file} kept k g l = omega (arith, kept .is k g l, cap-most (spread (treeAt file k)))
+
+-- before the first of them nothing is kept
+pub none-kept : {file : Bytes} {n : ℕ} {caps : List ℕ} → length caps ≡ mostNodes → KeptFrom file n n caps
+none-kept e = record { size = e; is = λ k g h. absurd (omega arith) }
+
+-- node i's entry is written
+pub kept-more : (file : Bytes) (n i v : ℕ) (caps : List ℕ) → i < mostNodes → v ≡ capped (treeAt file i) → KeptFrom file n (i + 1) caps → KeptFrom file n i (set caps i v)
+kept-more file n i v caps h e kept = record { size = length-set caps i v ∙ kept .size; is = λ k g l. go k g l (eqb k i) refl }
+  where
+    go : (k : ℕ) → i ≤ k → k < n → (b : Bool) → eqb k i ≡ b → getD (set caps i v) k 0 ≡ capped (treeAt file k)
+    go k g l true d =
+        let p : i ≡ k = sym (eqb-true k i d) in
+        subst (λ (j : ℕ). getD (set caps i v) j 0 ≡ capped (treeAt file j)) p (getD-set-same caps i v 0 (omega (arith, kept .size)) ∙ e)
+    go k g l false d =
+        let p : k ≡ i → ⊥ = eqb-false k i d in
+        getD-set-other caps i k v 0 p ∙ kept .is k (omega arith) l
+
+-- or has its spread already
+pub kept-as-is : {file : Bytes} {n i : ℕ} {caps : List ℕ} → getD caps i 0 ≡ capped (treeAt file i) → KeptFrom file n (i + 1) caps → KeptFrom file n i caps
+kept-as-is {file} {n} {i} {caps} e kept = record { size = kept .size; is = λ k g l. go k g l (eqb k i) refl }
+  where
+    go : (k : ℕ) → i ≤ k → k < n → (b : Bool) → eqb k i ≡ b → getD caps k 0 ≡ capped (treeAt file k)
+    go k g l true d = subst (λ (j : ℕ). getD caps j 0 ≡ capped (treeAt file j)) (sym (eqb-true k i d)) e
+    go k g l false d = let p : k ≡ i → ⊥ = eqb-false k i d in kept .is k (omega arith) l
+
+-- the leaves before node i have what they had
+pub leaves-less : {file : Bytes} {i : ℕ} {xs : List ℕ} → LeafValues insertsIn file (i + 1) xs → LeafValues insertsIn file i xs
+leaves-less s = record { room = s .room; at = λ k h e. s .at k (omega arith) e }
+
+pub leaves-written : {file : Bytes} {i : ℕ} {xs : List ℕ} (v : ℕ) → LeafValues insertsIn file (i + 1) xs → LeafValues insertsIn file i (set xs i v)
+leaves-written {i = i} {xs = xs} v s = record {
+  room = simp length-set (s .room);
+  at = λ k h e. getD-set-other xs i k v 0 (λ z. omega arith) ∙ s .at k (omega arith) e;
+}
+
 -- ---- one node of the file
 
-pub capped-by : (x : Node) (ins : ℕ) (caps : List ℕ) (k : NodeKind) → k ≡ nodeKind (x .kind)
-    → cappedBy k ins (getD caps (x .left) 0) (getD caps (x .right) 0) ≡ cappedNode x ins caps
-unfolding cappedNode
-capped-by x ins caps k e = ap (λ (q : NodeKind). cappedBy q ins (getD caps (x .left) 0) (getD caps (x .right) 0)) e
+-- node i of n, whose record begins at `place`, and of which the code has read the kind q
+pub record Read (file : Bytes) (n m i place : ℕ) (q : Kind) : Type 0 where
+  pub frame : Framed file n m
+  pub four : broken4 file ≡ false
+  pub five : broken5 file ≡ false
+  pub six : broken6 file ≡ false
+  pub below : i < n
+  pub begins : place ≡ nodePlace i
+  pub kind : kindOf q ≡ nodeKind (nodeAt file place .kind)
 
--- before the first of them nothing is: all are zero
-pub none-kept : (file : Bytes) (n : ℕ) → KeptFrom file n n (listed (λ j. 0) 0 mostNodes)
-unfolding listed
-none-kept file n = record { size = refl; most = λ k. omega (arith, all-zero mostNodes 0 k); is = λ k g h. absurd (omega arith) }
-
-kept-more : (file : Bytes) (n i v : ℕ) (caps : List ℕ) → i < mostNodes → v ≡ capped (treeAt file i) → KeptFrom file n (i + 1) caps → KeptFrom file n i (set caps i v)
-unfolding capped
-kept-more file n i v caps h e kept =
-    record {
-      size = length-set caps i v ∙ kept .size;
-      most = λ k. written k (λ (x : ℕ). x ≤ 256) (λ p. omega (arith, cap-most (spread (treeAt file i)))) (λ p. kept .most k);
-      is = λ k g l.
-          written k (λ (x : ℕ). x ≡ capped (treeAt file k)) (λ p. e ∙ ap (λ (q : ℕ). capped (treeAt file q)) p) (λ p. kept .is k (omega arith) l);
-    }
-  where
-    written : (k : ℕ) (P : ℕ → Type 0) → (i ≡ k → P v) → ((k ≡ i → ⊥) → P (getD caps k 0)) → P (getD (set caps i v) k 0)
-    written k P same other = go (eqb i k) refl
-      where
-        go : (b : Bool) → eqb i k ≡ b → P (getD (set caps i v) k 0)
-        go true d =
-            let p : i ≡ k = eqb-true i k d in
-            subst (λ (x : ℕ). P x) (sym (ap (λ (q : ℕ). getD (set caps i v) q 0) (sym p) ∙ getD-set-same caps i v 0 (omega (arith, kept .size)))) (same p)
-        go false d =
-            let p : k ≡ i → ⊥ = λ q. eqb-false i k d (sym q) in
-            subst (λ (x : ℕ). P x) (sym (getD-set-other caps i k v 0 p)) (other p)
-
--- what the code knows of node i once the nodes after it are kept: its record begins at `place`
-pub record Here (file : Bytes) (n i place ins : ℕ) (caps : List ℕ) : Type 0 where
-  pub kept : Kept (nodeAt file place) caps
-  pub is : (v : ℕ) → v ≡ cappedNode (nodeAt file place) ins caps → v ≡ capped (treeAt file i)
-  pub more : (v : ℕ) → v ≡ cappedNode (nodeAt file place) ins caps → KeptFrom file n i (set caps i v)
-
-module _ {file : Bytes} {n m : ℕ} (f : Framed file n m) (four : broken4 file ≡ false) (five : broken5 file ≡ false) (six : broken6 file ≡ false)
-    (held : List ℕ) (counts : LeafValues insertsIn file n held) (i next place : ℕ) (caps : List ℕ) (up : next ≡ i + 1) (h : i < n) (p : place ≡ nodePlace i)
-    (kept : KeptFrom file n next caps) where
+module _ {file : Bytes} {n m i place : ℕ} {q : Kind} (d : Read file n m i place q) where
   abbrev x : Node
   x = nodeAt file place
 
@@ -175,33 +194,76 @@ module _ {file : Bytes} {n m : ℕ} (f : Framed file n m) (four : broken4 file �
   steps = nodeStepsIn (nodesWithSteps file) i .steps
 
   inside : i < nodeCount file
-  inside = omega arith
+  inside = omega (arith, d .below, d .frame .nodes)
 
-  -- a leaf has at most 64 steps
-  few-steps : nodeKind (x .kind) ≡ aLeaf → length steps ≤ 64
-  few-steps k = leaf-steps file four six i (kind-read file inside p k) .few
+  is-kind : {y : Kind} → q ≡ y → nodeKind (x .kind) ≡ kindOf y
+  is-kind told = sym (d .kind) ∙ ap kindOf told
 
-  ins-is : nodeKind (x .kind) ≡ aLeaf → getD held i 0 ≡ insCount steps
-  unfolding insertsIn
-  ins-is k = counts .at i h (kind-read file inside p k)
+  tree-is : {k : NodeKind} → nodeKind (x .kind) ≡ k → treeAt file i ≡ shaped k i (nodeStepsIn (nodesWithSteps file) i) (treeAt file (x .left)) (treeAt file (x .right))
+  tree-is e = tree-read file inside (d .begins) (d .five) e
 
-  node-capped : cappedNode x (getD held i 0) caps ≡ capped (treeAt file i)
-  unfolding capped spread shaped cappedBy cap
-  node-capped = sym (capped-by x (getD held i 0) caps (nodeKind (x .kind)) refl) ∙ go (nodeKind (x .kind)) refl
+  -- a leaf's entry has the number of its ins steps, of which there are at most 64
+  module _ (told : q ≡ Leaf) {held : List ℕ} (counts : LeafValues insertsIn file (i + 1) held) where
+    a-leaf : nodeKind (x .kind) ≡ aLeaf
+    unfolding kindOf
+    a-leaf = is-kind told
+
+    pub leaf-kept : getD held i 0 ≡ capped (treeAt file i)
+    unfolding capped spread shaped insertsIn
+    leaf-kept =
+        counts .at i (omega arith) (kind-read file inside (d .begins) a-leaf)
+        ∙ sym (cap-low (insCount steps) (omega (arith, ins-few steps, leaf-steps file (d .four) (d .six) i (kind-read file inside (d .begins) a-leaf) .few)))
+        ∙ ap capped (sym (tree-is a-leaf))
+
+    pub leaf-narrow : getD held i 0 ≡ 256 → ⊥
+    unfolding insertsIn
+    leaf-narrow e =
+        omega (
+          arith,
+          e,
+          counts .at i (omega arith) (kind-read file inside (d .begins) a-leaf),
+          ins-few steps,
+          leaf-steps file (d .four) (d .six) i (kind-read file inside (d .begins) a-leaf) .few,
+        )
+
+  module _ {w : ReadWay} {j : Join} (told : q ≡ Pair w j) {caps : List ℕ} (kept : KeptFrom file n (i + 1) caps) where
+    children : ChildrenLater (nodeCount file) i x
+    unfolding kindOf
+    children = children-read file inside (d .begins) (d .five) (is-kind told)
+
+    pub sides-in : (x .left < length caps) × (x .right < length caps)
+    sides-in =
+        let y = children in
+        let f = d .frame in
+        (omega (arith, y .left-below, f .nodes, f .few-nodes, kept .size), omega (arith, y .right-below, f .nodes, f .few-nodes, kept .size))
+
+    pub sides-most : (getD caps (x .left) 0 ≤ 256) × (getD caps (x .right) 0 ≤ 256)
+    sides-most =
+        let y = children in
+        let f = d .frame in (
+          kept-most kept (x .left) (omega (arith, y .left-later)) (omega (arith, y .left-below, f .nodes)),
+          kept-most kept (x .right) (omega (arith, y .right-later)) (omega (arith, y .right-below, f .nodes)),
+        )
+
+    pub pair-kept : {v : ℕ} → v ≡ cap (spreadOf (wayOf w) (getD caps (x .left) 0) (getD caps (x .right) 0)) → v ≡ capped (treeAt file i)
+    unfolding capped spread shaped kindOf
+    pair-kept e =
+        let y = children in
+        let f = d .frame in
+        e
+        ∙ ap₂ (λ (l r : ℕ). cap (spreadOf (wayOf w) l r)) (kept .is (x .left) (omega (arith, y .left-later)) (omega (arith, y .left-below, f .nodes)))
+        (kept .is (x .right) (omega (arith, y .right-later)) (omega (arith, y .right-below, f .nodes)))
+        ∙ cap-pair (wayOf w) (spread (treeAt file (x .left))) (spread (treeAt file (x .right))) ∙ ap capped (sym (tree-is (is-kind told)))
+
+  -- neither a leaf nor a pair
+  pub other-kept : OneOf (1 ∷ 2 ∷ 4 ∷ []) (tagOf the-type q) → 0 ≡ capped (treeAt file i)
+  unfolding capped cap spread shaped kindOf
+  other-kept o = go q o (tree-is (is-kind refl))
     where
-      go : (k : NodeKind) → nodeKind (x .kind) ≡ k → cappedBy k (getD held i 0) (getD caps (x .left) 0) (getD caps (x .right) 0) ≡ capped (treeAt file i)
-      go aLeaf u = ins-is u ∙ sym (cap-low (insCount steps) (omega (arith, ins-few steps, few-steps u))) ∙ ap capped (sym (tree-read file inside p five u))
-      go aTrivial u = ap capped (sym (tree-read file inside p five u))
-      go anUnsatisfiable u = ap capped (sym (tree-read file inside p five u))
-      go noNode u = ap capped (sym (tree-read file inside p five u))
-      go (aPair w j) u =
-          let y = children-read file inside p five u in
-          ap₂ (λ (l r : ℕ). cap (spreadOf w l r)) (kept .is (x .left) (omega arith) (omega arith)) (kept .is (x .right) (omega arith) (omega arith))
-          ∙ cap-pair w (spread (treeAt file (x .left))) (spread (treeAt file (x .right))) ∙ ap capped (sym (tree-read file inside p five u))
-
-  pub here : Here file n i place (getD held i 0) caps
-  here = record {
-    kept = record { inside = λ w j k. let y = children-read file inside p five k in (omega (arith, kept .size), omega (arith, kept .size)); most = kept .most };
-    is = λ v g. g ∙ node-capped;
-    more = λ v g. kept-more file n i v caps (omega arith) (g ∙ node-capped) (subst (λ (k : ℕ). KeptFrom file n k caps) up kept);
-  }
+      go : (y : Kind) → OneOf (1 ∷ 2 ∷ 4 ∷ []) (tagOf the-type y)
+          → treeAt file i ≡ shaped (kindOf y) i (nodeStepsIn (nodesWithSteps file) i) (treeAt file (x .left)) (treeAt file (x .right)) → 0 ≡ capped (treeAt file i)
+      go Trivial o u = ap capped (sym u)
+      go Unsatisfiable o u = ap capped (sym u)
+      go Unknown o u = ap capped (sym u)
+      go Leaf o u = absurd (miss (1 ∷ 2 ∷ 4 ∷ []) 0 tt o)
+      go (Pair w j) o u = absurd (miss (1 ∷ 2 ∷ 4 ∷ []) 3 tt o)

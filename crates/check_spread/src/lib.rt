@@ -2,8 +2,8 @@
 // is at least its children's, so what is above 255 stays above it, and no sum or product of two kept numbers overflows.
 ghost use mathlib.Core.Path.{_≡_};
 ghost use mathlib.Core.Bool.{false};
-ghost use Prim.Native.Nat.{_+_, _≤_};
-ghost use lib.ListN.{length};
+ghost use Prim.Native.Nat.{_+_, _≤_, _<_};
+ghost use lib.ListN.{length, getD};
 ghost use Rattle.spec_policy.specs.Records.{nodeSize, nodeAt};
 ghost use Rattle.spec_policy.specs.Tree.{treeAt};
 ghost use Rattle.file_records.specs.Kinds.{wayOf};
@@ -14,11 +14,10 @@ ghost use Rattle.spec_check.specs.Spread.{spreadOf, wrong10};
 ghost use Rattle.faults.specs.Meaning.{spotOf};
 ghost use Rattle.check_layout.specs.Frame.{Framed};
 ghost use Rattle.check_leaves.specs.Leaves.{insertsIn, LeafValues};
-ghost use Rattle.check_spread.specs.Spreads.{cap, capped, cappedNode, Kept, KeptFrom};
+ghost use Rattle.check_spread.specs.Spreads.{cap, capped, KeptFrom};
 use faults::Spot;
 use faults::on_record;
 use file_records::Kind;
-use file_records::MOST_NODES;
 use file_records::Way;
 use file_records::node_kind;
 use file_records::node_left;
@@ -41,72 +40,62 @@ fn pair_spread(way: Way, left: u32, right: u32) -> u32
     if spread <= WIDEST { spread } else { TOO_WIDE }
 }
 
-// The node whose record begins at `place`; `inserts` is the number of its ins steps, if it is a leaf.
-fn node_spread(policy: &[u8], place: usize, inserts: u32, caps: &[u32]) -> u32
+// The spread of the pair whose record begins at `place`, by those of its children.
+fn spread_at(policy: &[u8], place: usize, way: Way, spreads: &[u32]) -> u32
     requires { ⌜ place + nodeSize ≤ length (now policy) ⌝ }
-    requires { ⌜ Kept (nodeAt (now policy) place) (now caps) ⌝ }
-    ensures { λ r. ⌜ r ≡ cappedNode (nodeAt (now (policy .entry)) place) inserts (now (caps .entry)) ⌝ }
+    requires { let x = nodeAt (now policy) place in ⌜ (x .left < length (now spreads)) × (x .right < length (now spreads)) ⌝ }
+    requires { let x = nodeAt (now policy) place in ⌜ (getD (now spreads) (x .left) 0 ≤ 256) × (getD (now spreads) (x .right) 0 ≤ 256) ⌝ }
+    ensures { λ r. let x = nodeAt (now (policy .entry)) place in
+        ⌜ r ≡ cap (spreadOf (wayOf way) (getD (now (spreads .entry)) (x .left) 0) (getD (now (spreads .entry)) (x .right) 0)) ⌝ }
 {
-    let kind = node_kind(policy, place);
-    match kind {
-        Kind::Leaf => inserts,
-        Kind::Trivial => 0,
-        Kind::Unsatisfiable => 0,
-        Kind::Pair(way, _) => {
-            let left = node_left(policy, place) as usize;
-            let right = node_right(policy, place) as usize;
-            pair_spread(way, caps[left], caps[right])
-        }
-        Kind::Unknown => 0,
-    }
+    let left = node_left(policy, place) as usize;
+    let right = node_right(policy, place) as usize;
+    pair_spread(way, spreads[left], spreads[right])
 }
 
-// Keeps every node's spread, and answers the first node whose is above 255: the nodes go down, so the last that is found is the first.
-fn keep_spreads(policy: &[u8], n: usize, m: usize, inserts: &[u32], caps: &mut [u32]) -> Spot
+// The first node whose spread is above 255: the nodes go down, so the last that is found is the first. Before, each leaf's entry has the number of its ins
+// steps, which is its spread; after, every node's entry has its spread.
+pub fn wrong10(policy: &[u8], n: usize, m: usize, spreads: &mut [u32]) -> Spot
     requires { ⌜ Framed (now policy) n m ⌝ }
     requires { ⌜ broken4 (now policy) ≡ false ⌝ }
     requires { ⌜ broken5 (now policy) ≡ false ⌝ }
     requires { ⌜ broken6 (now policy) ≡ false ⌝ }
-    requires { ⌜ LeafValues insertsIn (now policy) n (now inserts) ⌝ }
-    requires { ⌜ KeptFrom (now policy) n n (now caps) ⌝ }
+    requires { ⌜ LeafValues insertsIn (now policy) n (now spreads) ⌝ }
     ensures { λ r. ⌜ spotOf r ≡ wrong10 (now (policy .entry)) ⌝ }
-    ensures { λ _. ⌜ KeptFrom (now (policy .entry)) n 0 (now (caps .exit)) ⌝ }
+    ensures { λ _. ⌜ KeptFrom (now (policy .entry)) n 0 (now (spreads .exit)) ⌝ }
 {
     let mut found = Spot::Nowhere;
     let mut i = n;
     while i > 0 {
         i -= 1;
-        let spread = node_spread(policy, node_place(i), inserts[i], caps);
-        caps[i] = spread;
-        if spread == TOO_WIDE {
-            found = on_record(i);
+        let place = node_place(i);
+        let kind = node_kind(policy, place);
+        match kind {
+            Kind::Leaf => {}
+            Kind::Pair(way, _) => {
+                let spread = spread_at(policy, place, way, spreads);
+                spreads[i] = spread;
+                if spread == TOO_WIDE {
+                    found = on_record(i);
+                }
+            }
+            _ => {
+                spreads[i] = 0;
+            }
         }
     }
     found
 }
 
-pub fn wrong10(policy: &[u8], n: usize, m: usize, inserts: &[u32]) -> Spot
-    requires { ⌜ Framed (now policy) n m ⌝ }
-    requires { ⌜ broken4 (now policy) ≡ false ⌝ }
-    requires { ⌜ broken5 (now policy) ≡ false ⌝ }
-    requires { ⌜ broken6 (now policy) ≡ false ⌝ }
-    requires { ⌜ LeafValues insertsIn (now policy) n (now inserts) ⌝ }
-    ensures { λ r. ⌜ spotOf r ≡ wrong10 (now (policy .entry)) ⌝ }
-{
-    let mut caps = [0u32; MOST_NODES];
-    keep_spreads(policy, n, m, inserts, &mut caps)
-}
-
 // The root's spread, for who shows it; 256 if it is above 255.
-pub fn root_spread(policy: &[u8], n: usize, m: usize, inserts: &[u32]) -> u32
+pub fn root_spread(policy: &[u8], n: usize, m: usize, spreads: &mut [u32]) -> u32
     requires { ⌜ Framed (now policy) n m ⌝ }
     requires { ⌜ broken4 (now policy) ≡ false ⌝ }
     requires { ⌜ broken5 (now policy) ≡ false ⌝ }
     requires { ⌜ broken6 (now policy) ≡ false ⌝ }
-    requires { ⌜ LeafValues insertsIn (now policy) n (now inserts) ⌝ }
+    requires { ⌜ LeafValues insertsIn (now policy) n (now spreads) ⌝ }
     ensures { λ r. ⌜ r ≡ capped (treeAt (now (policy .entry)) 0) ⌝ }
 {
-    let mut caps = [0u32; MOST_NODES];
-    keep_spreads(policy, n, m, inserts, &mut caps);
-    caps[0]
+    wrong10(policy, n, m, spreads);
+    spreads[0]
 }

@@ -37,7 +37,7 @@ fn spread_of(policy: &[u8]) -> u32
     let mut effects = [0u64; MOST_NODES];
     let mut inserts = [0u32; MOST_NODES];
     walk_leaves(policy, n, m, &mut effects, &mut inserts);
-    root_spread(policy, n, m, &inserts)
+    root_spread(policy, n, m, &mut inserts)
 }
 
 // A line: a name, and a set.

@@ -111,4 +111,4 @@ check-records-spec =
     (λ c. search needs)
     (λ c. search needs)
     check-tree-requires
-    (λ c. c .before .check-tree .ensures))
+    (λ c. c .before .before .check-tree .ensures))

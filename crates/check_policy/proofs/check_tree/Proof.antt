@@ -44,20 +44,20 @@ module _ (c : tie.After-enum-told) where
   nine-kept = none (c .before .before .before .before .before .wrong9 .ensures .0) (c .enum-told .given .1)
 
 wrong10-requires : tie.Need-wrong10-requires
-wrong10-requires c κs = let p = c .before .before .before .before .before .before .before .before .before .before .before .pre in let k = p .0 in (k .front .frame, (k .four, (k .five, (k .six, p .1 .1))))
+wrong10-requires c κs = let p = c .before .before .before .before .before .before .before .before .before .before .before .before .pre in let k = p .0 in (k .front .frame, (k .four, (k .five, (k .six, p .1 .1))))
 
 returns-2 : tie.Need-returns-2
 unfolding answered spotBy broken10
 returns-2 c =
-    let e = c .before .before .before .wrong10 .ensures in
+    let e = c .before .before .before .before .before .wrong10 .ensures .0 in
     ap refused (c .fault-at2 .ensures ∙ ap (λ (p : spots.Spot). record { number = 10; spot = p }) e)
-    ∙ refused-10 _ (c .before .before .before .before .before .before .before .before .before .before .before .before .before .before .before .pre .0) (nine-kept (c .before .before .before .before)) (some e (c .before .enum-told4 .given .1))
+    ∙ refused-10 _ (c .before .before .before .before .before .before .before .before .before .before .before .before .before .before .before .before .before .before .pre .0) (nine-kept (c .before .before .before .before .before .before .before)) (some e (c .before .enum-told4 .given .1))
 
 returns-3 : tie.Need-returns-3
 unfolding answered broken10
 returns-3 c =
-    let e = c .before .before .before .before .before .before .before .before .before .wrong9 .ensures in
-    all-kept _ (c .before .before .before .before .before .before .before .before .before .before .before .before .before .before .before .pre .0) (nine-kept (c .before .before .before .before)) (none (c .before .before .before .wrong10 .ensures) (c .before .enum-told3 .given .1)) _ _ (e .1 .0) (e .1 .1)
+    let e = c .before .before .before .before .before .before .before .before .before .before .before .before .wrong9 .ensures in
+    all-kept _ (c .before .before .before .before .before .before .before .before .before .before .before .before .before .before .before .before .before .before .pre .0) (nine-kept (c .before .before .before .before .before .before .before)) (none (c .before .before .before .before .before .wrong10 .ensures .0) (c .before .enum-told3 .given .1)) _ _ (e .1 .0) (e .1 .1)
 
 pub check-tree-spec : {M : Type 1} → statement M
 check-tree-spec =
@@ -75,8 +75,10 @@ check-tree-spec =
     (λ c. search needs)
     (λ c κs. search needs)
     (λ c. search needs)
+    (λ c. search needs)
     returns-2
     (λ c. search needs)
-    (λ c. omega (arith, c .before .before .before .before .before .before .before .before .before .wrong9 .ensures .1 .1 .room))
+    (λ c. omega (arith, c .before .before .before .before .before .before .before .before .before .before .before .before .wrong9 .ensures .1 .1 .room))
+    (λ c. search needs)
     (λ c. search needs)
     returns-3)

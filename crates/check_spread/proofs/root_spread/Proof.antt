@@ -1,17 +1,12 @@
 -- `root_spread` meets its contract: there is a node 0.
 use native.Mathlib.Omega.{arith}
+use lib.Dec.{lit<}
 use borrow.Author.Needs.{needs}
-use Rattle.spec_policy.specs.Lists.{listed}
-use Rattle.check_spread.proofs.SpreadLaws.{none-kept}
 use Rattle.check_spread.proofs.root_spread.Statement.{statement}
 use Rattle.check_spread.proofs.root_spread.Tie as tie
 
-keep-spreads-requires : tie.Need-keep-spreads-requires
-unfolding listed
-keep-spreads-requires c κs = let h = c .before .before .before .pre in (h .0, (h .1 .0, (h .1 .1 .0, (h .1 .1 .1 .0, (h .1 .1 .1 .1, none-kept _ _)))))
-
 returns : tie.Need-returns
-returns c = let f = c .before .before .before .before .before .pre .0 in c .before .keep-spreads .ensures .1 .is 0 (omega arith) (omega (arith, f .some-node))
+returns c = let f = c .before .before .before .before .before .before .before .pre .0 in c .before .before .before .wrong10 .ensures .1 .is 0 (omega arith) (omega (arith, f .some-node))
 
 pub root-spread-spec : {M : Type 1} → statement M
-root-spread-spec = tie.close (tie.spec (λ c. search needs) keep-spreads-requires (λ c. search needs) returns)
+root-spread-spec = tie.close (tie.spec (λ c κs. search needs) (λ c. omega (arith, c .before .before .before .wrong10 .ensures .1 .size)) (λ c. search needs) returns)

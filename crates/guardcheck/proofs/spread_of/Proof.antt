@@ -26,7 +26,7 @@ root-spread-requires c κs =
     (frame (s .args .policy .now) ok _ _ (c .before .before .before .before .before .before .before .nodes-of .ensures .0) (c .before .before .before .before .before .before .steps-of .ensures .0), (ok .kept4, (ok .kept5, (ok .kept6, inserts-held (s .args .policy .now) ok (c .before .before .before .walk-leaves .ensures)))))
 
 returns : tie.Need-returns
-returns c = let s = c .before .before .before .before .before .before .before .before .before .before in spread-is (s .args .policy .now) (s .pre) (c .root-spread .ensures)
+returns c = let s = c .before .before .before .before .before .before .before .before .before .before .before in spread-is (s .args .policy .now) (s .pre) (c .before .root-spread .ensures)
 
 pub spread-of-spec : {M : Type 1} → statement M
 spread-of-spec = tie.close (tie.spec nodes-of-requires steps-of-requires (λ c. search needs) (λ c. search needs) walk-leaves-requires (λ c. search needs) root-spread-requires returns)
