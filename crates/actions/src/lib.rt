@@ -1,11 +1,13 @@
 // The action sets, and each operation on them against its definition in specs/Sets, for all arguments.
+#![tactic(auto)]
+
 ghost use Rattle.std.specs.Prelude.{◌≡◌};
 ghost use Rattle.actions.specs.Sets.{single, union, common, difference, has, is_empty, within, meets};
 
 // The greatest action.
 pub const LAST_ACTION: u8 = 63;
 
-#[derive(Drop)]
+#[derive(Clone, Copy)]
 pub struct ActionSet {
     pub bits: u64,
 }

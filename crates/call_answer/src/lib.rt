@@ -1,4 +1,6 @@
 // What a call asks and answers: its request, the verdict's event, and the call's end.
+#![tactic(auto)]
+
 ghost use Rattle.std.specs.Prelude.{◌≡◌, [], ◌∷◌, ◌+◌, ◌*◌, ◌≤◌, length};
 ghost use Rattle.actions.specs.Sets.{Action};
 ghost use Rattle.spec_policy.specs.Bytes.{put};
@@ -19,7 +21,7 @@ use turn_state::{HALTED, saved_status};
 use turn_told::{EVENT_ACCEPTED, EVENT_SUPPRESSED};
 
 // Which call it is.
-#[derive(Drop)]
+#[derive(Clone, Copy)]
 pub enum Call {
     Open,
     Offer(u8),
@@ -27,7 +29,7 @@ pub enum Call {
 }
 
 // The number of events and the root's status, or a refusal.
-#[derive(Drop)]
+#[derive(Clone, Copy)]
 pub enum Answer {
     Answered(usize, u8),
     Refused(Fault),

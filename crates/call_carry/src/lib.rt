@@ -1,4 +1,6 @@
 // A call that no rule refuses, carried out: the phases of the root, the verdict between them, the state tidied at the end.
+#![tactic(auto)]
+
 ghost use Rattle.std.specs.Prelude.{◌≡◌, [], ◌≤◌, length};
 ghost use Rattle.spec_policy.specs.Tree.{trivial, regulated, tree};
 ghost use Rattle.spec_check.specs.Passed.{Passed};

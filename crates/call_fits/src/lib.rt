@@ -1,4 +1,6 @@
 // Rule 12: whether a saved state fits a passed policy. Nodes are taken from the last to the first, so a pair finds its sides tested.
+#![tactic(auto)]
+
 ghost use Rattle.std.specs.Prelude.{◌≡◌, false, ◌&&◌, ◌||◌, not, ℕ, ◌+◌, ◌*◌, ◌≤◌, ◌<◌, eqb, length, get_or};
 ghost use Rattle.std.specs.Bool.{beq};
 ghost use Rattle.actions.specs.Sets.{ActionSet};

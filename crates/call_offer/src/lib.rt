@@ -1,4 +1,6 @@
 // The root's turn on an offered action: its phases, and the verdict between them.
+#![tactic(auto)]
+
 ghost use Rattle.std.specs.Prelude.{◌≡◌, true, ◌≤◌, length};
 ghost use Rattle.spec_policy.specs.Tree.{regulated, tree};
 ghost use Rattle.spec_turns.specs.Turn.{before, offer, is_asked, call};

@@ -1,4 +1,6 @@
 // One phase of the root, and its inserts as events.
+#![tactic(auto)]
+
 ghost use Rattle.std.specs.Prelude.{◌≡◌, ◌+◌, ◌*◌, ◌≤◌, length};
 ghost use Rattle.spec_policy.specs.Tree.{tree};
 ghost use Rattle.spec_trace.specs.Tallies.{steps_if};
@@ -16,7 +18,7 @@ use turn_told::tell;
 const ROOT: usize = 0;
 
 // So many events stand in the room; and whether the phase's action is suppressed.
-#[derive(Drop)]
+#[derive(Clone, Copy)]
 pub struct Ran {
     pub events: usize,
     pub suppressed: bool,

@@ -1,4 +1,6 @@
 // Refusals 11, 12 and 14.
+#![tactic(auto)]
+
 ghost use Rattle.std.specs.Prelude.{◌≡◌, length};
 ghost use Rattle.spec_check.specs.Passed.{Passed};
 ghost use Rattle.spec_turns.specs.Saved.{state_size};

@@ -1,4 +1,6 @@
 // Rule 5, the tree rule: one pass that tests each child's number and counts it, then one over the counts; and which node breaks it.
+#![tactic(auto)]
+
 ghost use Rattle.std.specs.Prelude.{◌≡◌, [], ◌∷◌, ℕ, ◌+◌, ◌-◌, ◌*◌, ◌≤◌, ◌<◌, T, eqb, length, get_or};
 ghost use Rattle.spec_policy.specs.Lists.{one, listed, every, every_at, occurs};
 ghost use Rattle.spec_policy.specs.Records.{node_size, most_nodes, node_at, node_place, nodes};

@@ -1,4 +1,6 @@
 // The regulated set and the effect set of each node's tree, from the last node to the first, and rule 9 by them in the same pass.
+#![tactic(auto)]
+
 ghost use Rattle.std.specs.Prelude.{◌≡◌, ◌&&◌, ◌+◌, ◌<◌, length, get_or};
 ghost use Rattle.actions.specs.Sets.{union, meets};
 ghost use Rattle.spec_policy.specs.Records.{most_nodes};
@@ -15,7 +17,7 @@ use faults::{Spot, on_record};
 use file_records::{Kind, Way, node_kind, node_left, node_place, node_right, node_set};
 
 // A node's two sets, and whether it is a parallel pair whose sides interfere.
-#[derive(Drop)]
+#[derive(Clone, Copy)]
 struct NodeSets {
     regulated: ActionSet,
     effects: ActionSet,

@@ -1,5 +1,7 @@
 // Rules 1 to 4: the file's front, and the layout of its records. A rule's tests are joined by `&` and `|`, as its definition joins
 // them: every field is read, and no branch is taken for each of them.
+#![tactic(auto)]
+
 ghost use Rattle.std.specs.Prelude.{◌≡◌, ◌+◌, ◌*◌, ◌≤◌, ◌<◌, length};
 ghost use Rattle.spec_policy.specs.Lists.{every};
 ghost use Rattle.spec_policy.specs.Records.{node_size, step_size, most_nodes, node_count, node_at, step_record_at, node_place, step_records, front_size};
@@ -117,7 +119,7 @@ fn step_fits(policy: &[u8], at: usize) -> bool
 // ---- a step and its test, from one reading of its record
 
 // A step's record as the walk reads it: the step, and whether its fields keep rule 4.
-#[derive(Drop)]
+#[derive(Clone, Copy)]
 pub struct Read {
     pub step: Step,
     pub fits: bool,

@@ -1,4 +1,6 @@
 // One walk through a leaf's steps: rule 4 of their records, rules 6, 7 and 8 of the leaf, its effect set, and how many ins steps it has.
+#![tactic(auto)]
+
 ghost use Rattle.std.specs.Prelude.{◌≡◌, false, ◌+◌, ◌*◌, ◌≤◌, length};
 ghost use Rattle.file_records.specs.Code.{code_at};
 ghost use Rattle.check_layout.specs.Fits.{steps_fit};
@@ -12,7 +14,7 @@ use check_steps::{Walk, meet};
 use file_records::{MOST_LEAF_STEPS, STEP_SIZE};
 
 // Rule 4 of the step records, rule 6, rule 7, rule 8, the effect set and the number of ins steps.
-#[derive(Drop)]
+#[derive(Clone, Copy)]
 pub struct Walked {
     pub fields: bool,
     pub targets: bool,

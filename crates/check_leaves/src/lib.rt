@@ -1,4 +1,6 @@
 // The leaves in node order: that they own all steps, and the walk through each of them.
+#![tactic(auto)]
+
 ghost use Rattle.std.specs.Prelude.{◌≡◌, true, map, eqb, length};
 ghost use Rattle.spec_policy.specs.Lists.{summed};
 ghost use Rattle.spec_policy.specs.Records.{most_nodes, nodes};

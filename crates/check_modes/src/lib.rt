@@ -1,5 +1,7 @@
 // Rule 7, the mode rule: one walk through a leaf's steps marks the modes in which each is reached and holds each to the table. At its end all are
 // asked at once whether they are reached in one mode.
+#![tactic(auto)]
+
 ghost use Rattle.std.specs.Prelude.{◌≡◌, List, ℕ, ◌≤◌, ◌<◌, T, eqb, ltb, length};
 ghost use Rattle.actions.specs.Sets.{has};
 ghost use Rattle.spec_policy.specs.Steps.{Step, next, ok, sup, ins, acase, spend, end, halt};
@@ -42,7 +44,7 @@ fn entry(kind: u8, mode: usize) -> u8
 // ---- the marks
 
 // A word for each mode: bit o is 1 where offset o is reached in that mode. They go by value, so that a compiler may keep them in registers.
-#[derive(Drop)]
+#[derive(Clone, Copy)]
 pub struct Marks {
     pub idle: u64,
     pub pending: u64,
@@ -111,7 +113,7 @@ fn stands(e: u8) -> bool
 }
 
 // What the walk has of a step: the marks after it, and whether it may stand where it is reached.
-#[derive(Drop)]
+#[derive(Clone, Copy)]
 pub struct Led {
     pub marks: Marks,
     pub fits: bool,
@@ -303,7 +305,7 @@ pub fn each_once(nexts: u64, count: usize, seen: Marks) -> bool
 // whether there is such a step.
 
 // A step as its kind's row and its two targets.
-#[derive(Drop)]
+#[derive(Clone, Copy)]
 pub struct Row {
     pub kind: u8,
     pub first: usize,
@@ -311,7 +313,7 @@ pub struct Row {
 }
 
 // The modes in which one offset is marked.
-#[derive(Drop)]
+#[derive(Clone, Copy)]
 struct Here {
     idle: bool,
     pending: bool,

@@ -1,5 +1,7 @@
 // The check: rules 1 to 10, each tried over the whole file, where the caller keeps it, before its answer counts. Rules 6 to 8, and rule 4 of
 // the step records, are tried in one walk through each leaf.
+#![tactic(auto)]
+
 ghost use Rattle.std.specs.Prelude.{◌≡◌};
 ghost use Rattle.spec_check.specs.Check.{refused, check};
 ghost use Rattle.spec_check.specs.Passed.{spot_by, fault_by};
@@ -20,7 +22,7 @@ use faults::{Fault, Spot, bare_fault, fault_at};
 use file_records::{MOST_NODES, nodes_of, steps_of};
 
 // Either the root's two sets or a refusal.
-#[derive(Drop)]
+#[derive(Clone, Copy)]
 pub enum Checked {
     Passed(ActionSet, ActionSet),
     Refused(Fault),

@@ -1,4 +1,6 @@
 // What is possible at a step of a leaf: the sets of its offsets, and more joined to one of them.
+#![tactic(auto)]
+
 ghost use Rattle.std.specs.Prelude.{◌≡◌, ◌<◌, length};
 ghost use Rattle.spec_check.specs.Possible.{join_at};
 ghost use Rattle.spec_policy.specs.Records.{most_leaf_steps};

@@ -1,5 +1,7 @@
 // Which step breaks rule 6, 7 or 8: asked only once the rule is known to be broken, so that a file that passes pays nothing for it. What the walk through
 // the leaves asks of a step is compiled into the walk, so a record is read anew here, by functions of this crate.
+#![tactic(auto)]
+
 ghost use Rattle.std.specs.Prelude.{◌≡◌, true, false, [], ◌∷◌, map, ◌+◌, ◌*◌, ◌≤◌, ◌<◌, T, ltb, length, get_or, take};
 ghost use Rattle.actions.specs.Sets.{EMPTY};
 ghost use Rattle.spec_policy.specs.Lists.{every, summed};
@@ -227,7 +229,7 @@ fn untaken_step(policy: &[u8], at: usize, count: usize, set: ActionSet) -> Spot
 
 // ---- rules 6 to 8 of all leaves
 
-#[derive(Drop)]
+#[derive(Clone, Copy)]
 enum Rule {
     Targets,
     Modes,

@@ -1,5 +1,7 @@
 // Rule 10, spread: one pass from the last node to the first, each node's children before it. A spread above 255 is kept as 256: a pair's
 // is at least its children's, so what is above 255 stays above it, and no sum or product of two kept numbers overflows.
+#![tactic(auto)]
+
 ghost use Rattle.std.specs.Prelude.{◌≡◌, false, ◌+◌, ◌≤◌, ◌<◌, length, get_or};
 ghost use Rattle.spec_policy.specs.Records.{node_size, node_at};
 ghost use Rattle.spec_policy.specs.Tree.{tree_at};

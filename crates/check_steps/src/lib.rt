@@ -1,5 +1,7 @@
 // What the walk through a leaf finds at one step, a function for each kind: rules 6, 7 and 8 of it, what it adds to the effect set and to the
 // number of ins steps, and what it passes on.
+#![tactic(auto)]
+
 ghost use Rattle.std.specs.Prelude.{ℕ, ◌≡◌, false, List, get_or};
 ghost use Rattle.actions.specs.Sets.{EMPTY};
 ghost use Rattle.spec_policy.specs.Steps as steps;
@@ -17,7 +19,7 @@ use file_records::{MOST_LEAF_STEPS, Operand, Step};
 
 // What the walk has found so far: of the last step rule 6; of all steps rule 7, but for the nexts, and rule 8; the marks of the modes, the
 // offsets of the nexts, the effect set and the number of ins steps.
-#[derive(Drop)]
+#[derive(Clone, Copy)]
 pub struct Walk {
     pub targets: bool,
     pub modes: bool,

@@ -1,4 +1,6 @@
 // Rule 6 of one target: it is in the leaf, and ahead of its step or a next.
+#![tactic(auto)]
+
 ghost use Rattle.std.specs.Prelude.{◌≡◌, true, List, ◌+◌, ◌≤◌, ◌<◌, length};
 ghost use Rattle.spec_policy.specs.Steps.{Step};
 ghost use Rattle.spec_check.specs.Targets.{target_fits};

@@ -1,11 +1,13 @@
 // What a refusal tells: its number, and the record that breaks the rule, if the rule is about records. Every entry point, the writer and the programs
 // hand it on as the check has found it.
+#![tactic(auto)]
+
 ghost use Rattle.std.specs.Prelude.{◌≡◌, ◌≤◌, ◌<◌};
 ghost use Rattle.spec_policy.specs.Spots.{bare_fault, on_record};
 ghost use Rattle.faults.specs.Meaning.{spot_of, fault_of, spot_code, fault_word};
 
 // Which record: a node's or a step's number. There is none where a rule is about the whole file, or about what comes with it.
-#[derive(Drop)]
+#[derive(Clone, Copy)]
 pub enum Spot {
     Nowhere,
     Record(u16),
@@ -19,7 +21,7 @@ pub fn on_record(p: usize) -> Spot
     Spot::Record(p as u16)
 }
 
-#[derive(Drop)]
+#[derive(Clone, Copy)]
 pub struct Fault {
     pub number: u8,
     pub spot: Spot,

@@ -1,5 +1,7 @@
 // Reading the policy where the caller keeps it: big-endian numbers, the fields of its records, and a step as an enum. No record is
 // copied. Each function asks that what it reads is inside the slice, which rule 3 gives of every record.
+#![tactic(auto)]
+
 ghost use Rattle.std.specs.Prelude.{◌≡◌, ◌+◌, ◌*◌, ◌≤◌, ◌<◌, length};
 ghost use Rattle.spec_policy.specs.Bytes.{number};
 ghost use Rattle.spec_policy.specs.Records.{front_size, node_size, step_size, node_count, step_count, node_place, node_at, step_record_at};
@@ -149,19 +151,19 @@ pub fn steps_of(policy: &[u8]) -> usize
 
 // ---- nodes
 
-#[derive(Drop)]
+#[derive(Clone, Copy)]
 pub enum Way {
     Parallel,
     Sequential,
 }
 
-#[derive(Drop)]
+#[derive(Clone, Copy)]
 pub enum Join {
     And,
     Or,
 }
 
-#[derive(Drop)]
+#[derive(Clone, Copy)]
 pub enum Kind {
     Leaf,
     Trivial,
@@ -235,7 +237,7 @@ pub fn node_set(policy: &[u8], at: usize) -> ActionSet
 // ---- steps
 
 // What a step works with.
-#[derive(Drop)]
+#[derive(Clone, Copy)]
 pub enum Operand {
     Action(u8),
     Set(ActionSet),
@@ -243,7 +245,7 @@ pub enum Operand {
 }
 
 // A step holds its kind, and with it where it goes on.
-#[derive(Drop)]
+#[derive(Clone, Copy)]
 pub enum Step {
     Next(u8, u8),
     Ok(u8),

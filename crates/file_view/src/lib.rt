@@ -1,6 +1,8 @@
 // The policy view: the file where the caller keeps it, its two counts beside it, and thin getters of its records. No record is copied.
 // A getter takes the view apart and leaves the reading to a function on the slice and the numbers. Each asks that the record lies in
 // the file, which rule 3 gives of every record.
+#![tactic(auto)]
+
 ghost use Rattle.std.specs.Prelude.{◌≡◌, ◌+◌, ◌*◌, ◌≤◌, ◌<◌, length};
 ghost use Rattle.spec_policy.specs.Records.{front_size, node_count, step_count, node_size, step_size, node_place, node_at, step_record_at};
 ghost use Rattle.spec_policy.specs.Steps.{step_of};
@@ -13,7 +15,7 @@ use file_records::{
     node_set, node_start, nodes_of, step_at, steps_of,
 };
 
-#[derive(Drop)]
+#[derive(Clone, Copy)]
 pub struct PolicyView<'a> {
     pub file: &'a [u8],
     pub nodes: usize,
@@ -137,8 +139,7 @@ pub fn step_second<'a>(view: PolicyView<'a>, number: usize) -> u8
     step_second_in(view.file, view.nodes, number)
 }
 
-// ---- the same of the file itself: each makes a view and asks it. The borrow checker covers no function that holds a view, so that those which read the
-// file after the check call these.
+// ---- the same of the file itself, for those that read it after the check: each makes a view and asks it.
 
 pub fn view_kind(policy: &[u8], node: usize) -> Kind
     requires { (node ≤ 255) × (node_place node + node_size ≤ length policy.now) }

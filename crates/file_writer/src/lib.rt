@@ -1,4 +1,6 @@
 // The writer: a policy file from the records of its nodes and steps, laid into the caller's output once the check passes it.
+#![tactic(auto)]
+
 ghost use Rattle.std.specs.Prelude.{◌≡◌, ◌+◌, ◌≤◌, ◌∷◌, ◌++◌, length};
 ghost use Rattle.spec_policy.specs.Bytes.{spell, put};
 ghost use Rattle.spec_check.specs.Check.{check};
@@ -13,7 +15,7 @@ use faults::{Fault, bare_fault};
 use file_records::{FRONT_SIZE, MOST_FILE, MOST_NODES, MOST_STEPS, NODE_SIZE, STEP_SIZE, VERSION};
 
 // The length of the file, or a refusal. Its record is one of the file that would be written.
-#[derive(Drop)]
+#[derive(Clone, Copy)]
 pub enum Written {
     Wrote(u16),
     Refused(Fault),
@@ -49,7 +51,7 @@ fn copy_at(from: &[u8], at: usize, to: &mut [u8])
     requires { at + length from.now ≤ length to.old }
     ensures { to.new ≡ put to.old at from.now }
 {
-    bytes::copy(from, &mut to[at..]);
+    to[at..at + from.len()].copy_from_slice(from);
 }
 
 // How long the file is.

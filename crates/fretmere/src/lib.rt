@@ -1,4 +1,6 @@
 // The static library for C: the four entry points, the writer, and the count of running leaves, on the caller's buffers, each answer in one word.
+#![tactic(auto)]
+
 ghost use Rattle.std.specs.Prelude.{◌≡◌};
 ghost use Rattle.spec_check.specs.Check.{check};
 ghost use Rattle.spec_turns.specs.Entries.{Reply, opens, offers, closes};

@@ -1,5 +1,7 @@
 // The static library for C of the run over a trace, in an archive of its own: where it is compiled together with the single calls, each of these pays for the
 // counting of steps that only the run asks for (docs/DECISIONS.md).
+#![tactic(auto)]
+
 ghost use Rattle.std.specs.Prelude.{◌≡◌};
 ghost use Rattle.spec_trace.specs.Traces as traces;
 ghost use Rattle.trace_run.specs.Reports.{stop_value};

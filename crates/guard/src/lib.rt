@@ -1,4 +1,6 @@
 // The entry points: open, offer and close, on slices that the caller lends. The check stands in crate `check_policy`.
+#![tactic(auto)]
+
 ghost use Rattle.spec_turns.specs.Entries.{opens, offers, closes};
 ghost use Rattle.call_answer.specs.Replies.{Gave};
 

@@ -1,6 +1,8 @@
 // guardcheck: reads a policy file on standard input and prints the root's two sets and its spread, or the check's refusal. Proved is the text (`tell`):
 // it is what `specs/Shown` says of the file. Not proved, for no contract of the kit's can say it: that the bytes which `read` leaves are those that
 // came in, and that the text handed to `write` comes out. A read that fails counts as the end of the input.
+#![tactic(auto)]
+
 ghost use Rattle.std.specs.Prelude.{◌≡◌, ◌+◌, ◌≤◌, length};
 ghost use Rattle.spec_policy.specs.Records.{most_file};
 ghost use Rattle.spec_policy.specs.Tree.{tree};
@@ -15,7 +17,9 @@ use check_policy::{Checked, check};
 use check_spread::root_spread;
 use faults::bare_fault;
 use file_records::{MOST_FILE, MOST_NODES, nodes_of, steps_of};
-use libc::{STDIN_FILENO, STDOUT_FILENO};
+use run_input::read_full;
+use std::io;
+use std::io::Write;
 use text_append::{append, append_number, append_set, refuse};
 
 // The root's spread. The leaves are walked through once more for their inserts: the check's answer has no spread, and here nobody waits.
@@ -76,10 +80,10 @@ fn input_room() -> [u8; MOST_FILE + 1]
 
 const TEXT_ROOM: usize = 512;
 
-fn main() {
+fn main(rt: HostRuntime) -> io::Result<()> {
     let mut input = input_room();
     let mut room = [0u8; TEXT_ROOM];
-    let end = io::read_full(STDIN_FILENO, &mut input);
+    let end = read_full(&mut rt.stdin(), &mut input);
     let told = tell(&input[..end], &mut room);
-    io::write_all(STDOUT_FILENO, &room[..told]);
+    rt.stdout().write_all(&room[..told])
 }

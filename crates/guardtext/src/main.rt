@@ -2,6 +2,8 @@
 // to 3 let it be read, its records. Proved is the text (`tell`): it is what `specs/Shown` says of the file. Not proved, for no contract of the kit's
 // can say it: that the bytes which `read` leaves are those that came in, and that the text handed to `write` comes out. A read that fails counts as
 // the end of the input.
+#![tactic(auto)]
+
 ghost use Rattle.std.specs.Prelude.{◌≡◌, ◌+◌, ◌≤◌, length};
 ghost use Rattle.spec_policy.specs.Records.{most_file};
 ghost use Rattle.spec_check.specs.Layout.{CountsFit};
@@ -13,7 +15,9 @@ ghost use Rattle.guardtext.specs.Shown.{text_room, records_text, heading, refuse
 use check_policy::{Checked, check};
 use faults::{Fault, bare_fault};
 use file_records::{FRONT_SIZE, MOST_FILE, node_place, nodes_of};
-use libc::{STDIN_FILENO, STDOUT_FILENO};
+use run_input::read_full;
+use std::io;
+use std::io::Write;
 use text_append::{append, refuse};
 use text_print::print;
 use text_spot::append_fault;
@@ -79,10 +83,10 @@ fn text_room() -> [u8; TEXT_ROOM]
     [0; TEXT_ROOM]
 }
 
-fn main() {
+fn main(rt: HostRuntime) -> io::Result<()> {
     let mut input = input_room();
     let mut room = text_room();
-    let end = io::read_full(STDIN_FILENO, &mut input);
+    let end = read_full(&mut rt.stdin(), &mut input);
     let told = tell(&input[..end], &mut room);
-    io::write_all(STDOUT_FILENO, &room[..told]);
+    rt.stdout().write_all(&room[..told])
 }

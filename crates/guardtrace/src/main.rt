@@ -3,14 +3,17 @@
 // run over its first part. Where 2,097,152 events do not suffice the run ends with 15. Proved is the text (`tell`): it is what `specs/Shown` says of the
 // input. Not proved, for no contract of the kit's can say it: that the bytes which `read` leaves are those that came in, and that the text handed to
 // `write` comes out. A read that fails counts as the end of the input.
+#![tactic(auto)]
+
 ghost use Rattle.std.specs.Prelude.{◌≡◌, ◌≤◌, length, replicate};
 ghost use Rattle.text_append.specs.Added.{Tells};
 ghost use Rattle.guardtrace.specs.Shown.{ran, input_room, event_bytes, text_room, shown};
 
 use crate::report::tell_report;
 use file_records::MOST_FILE;
-use libc::{STDIN_FILENO, STDOUT_FILENO};
-use run_input::policy_part;
+use run_input::{policy_part, read_full};
+use std::io;
+use std::io::Write;
 use text_append::append;
 use trace_events::ACTION_COUNTS;
 use trace_run::follow_trace;
@@ -70,11 +73,11 @@ fn text_room() -> [u8; TEXT_ROOM]
     [0; TEXT_ROOM]
 }
 
-fn main() {
+fn main(rt: HostRuntime) -> io::Result<()> {
     let mut input = input_room();
     let mut events = event_room();
     let mut room = text_room();
-    let end = io::read_full(STDIN_FILENO, &mut input);
+    let end = read_full(&mut rt.stdin(), &mut input);
     let told = tell(&input[..end], &mut events, &mut room);
-    io::write_all(STDOUT_FILENO, &room[..told]);
+    rt.stdout().write_all(&room[..told])
 }

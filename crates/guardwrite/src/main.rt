@@ -2,12 +2,16 @@
 // error, and then nothing to standard output. Proved is what is told of the bytes read (`told`): it is what `specs/Said` says. Not proved, for no
 // contract of the kit's can say it: that the bytes which `read` leaves are those that came in, and that those handed to `write` come out. A read that
 // fails counts as the end of the input.
+#![tactic(auto)]
+
 ghost use Rattle.std.specs.Prelude.{◌≡◌, ◌+◌, length};
 ghost use Rattle.guardwrite.specs.Said.{most_text, out_room};
 
 use crate::told::{MOST_TEXT, Told, tell};
 use file_records::MOST_FILE;
-use libc::{STDERR_FILENO, STDIN_FILENO, STDOUT_FILENO};
+use run_input::read_full;
+use std::io;
+use std::io::Write;
 
 mod told;
 
@@ -25,17 +29,13 @@ fn file_room() -> [u8; MOST_FILE]
     [0; MOST_FILE]
 }
 
-fn main() {
+fn main(rt: HostRuntime) -> io::Result<()> {
     let mut text = text_room();
     let mut out = file_room();
-    let end = io::read_full(STDIN_FILENO, &mut text);
+    let end = read_full(&mut rt.stdin(), &mut text);
     let told = tell(&text[..end], &mut out);
     match told {
-        Told::File(length) => {
-            io::write_all(STDOUT_FILENO, &out[..length]);
-        }
-        Told::Message(length) => {
-            io::write_all(STDERR_FILENO, &out[..length]);
-        }
+        Told::File(length) => rt.stdout().write_all(&out[..length]),
+        Told::Message(length) => rt.stderr().write_all(&out[..length]),
     }
 }

@@ -19,7 +19,7 @@ use text_read::{Answer, read};
 use text_spot::{append_fault, spot_line};
 
 // How many bytes at the start of the buffer are the file, or the message.
-#[derive(Drop)]
+#[derive(Clone, Copy)]
 pub enum Told {
     File(usize),
     Message(usize),

@@ -1,10 +1,31 @@
-// Where the policy ends in what guardrun and guardtrace read: a policy, and then actions.
+// What the programs read: bytes up to the room's end or the input's, and where the policy ends in what guardrun and guardtrace read, a policy and
+// then actions.
+#![tactic(auto)]
+
 ghost use Rattle.std.specs.Prelude.{◌≡◌, ◌≤◌, length};
 ghost use Rattle.spec_policy.specs.Bytes.{number};
 ghost use Rattle.spec_policy.specs.Records.{most_file};
 ghost use Rattle.run_input.specs.Ends.{policy_end, policy_part};
 
 use file_records::{MOST_FILE, word16};
+use std::io::Read;
+
+// Reads until the room is full, the input ends or a read fails, and answers how many bytes it put at the start of the room.
+pub fn read_full<R: Read>(input: &mut R, room: &mut [u8]) -> usize
+    ensures { result ≤ length room.new }
+{
+    let mut done = 0;
+    while done < room.len() {
+        let Ok(n) = input.read(&mut room[done..]) else {
+            break;
+        };
+        if n == 0 {
+            break;
+        }
+        done += n;
+    }
+    done
+}
 
 // "the first two bytes say how many bytes, at most 6,646 taken": where the policy ends, the two bytes with it.
 pub fn policy_end(policy: &[u8]) -> usize

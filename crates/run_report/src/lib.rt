@@ -1,4 +1,6 @@
 // What guardrun prints of each call's answer, put into a lent buffer.
+#![tactic(auto)]
+
 ghost use Rattle.std.specs.Prelude.{◌≡◌, ◌*◌, ◌≤◌, length};
 ghost use Rattle.spec_policy.specs.Bytes.{Bytes};
 ghost use Rattle.spec_turns.specs.Status.{status_of};
@@ -19,7 +21,7 @@ use turn_state::{ENDED, ENDED_LEFT, ENDED_RIGHT, HALTED, RUNNING};
 use turn_told::{EVENT_ACCEPTED, EVENT_SUPPRESSED};
 
 // Where the text ends, and whether it is the run's last.
-#[derive(Drop)]
+#[derive(Clone, Copy)]
 pub struct Told {
     pub end: usize,
     pub over: bool,

@@ -1,1 +1,2 @@
 // Theorems only: the third demand, stated in specs/ and proved in proofs/.
+#![tactic(auto)]

@@ -1,4 +1,6 @@
 // Text put into a lent buffer, piece after piece. As much of it is written as there is room for, so on no room a text is measured.
+#![tactic(auto)]
+
 ghost use Rattle.std.specs.Prelude.{◌≡◌, [], ◌∷◌, ◌<◌, min};
 ghost use Rattle.spec_text.specs.Numerals.{digit, decimal};
 ghost use Rattle.spec_text.specs.Forms.{actions};
@@ -41,7 +43,7 @@ pub fn append(out: &mut [u8], at: usize, text: &[u8]) -> usize
     let room = out.len();
     if at < room {
         let part = least(text.len(), room - at);
-        bytes::copy(&text[..part], &mut out[at..]);
+        out[at..at + part].copy_from_slice(&text[..part]);
     }
     end
 }

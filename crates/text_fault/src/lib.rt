@@ -1,4 +1,6 @@
 // What was expected in the line of a text that cannot be read, put into a lent buffer.
+#![tactic(auto)]
+
 ghost use Rattle.std.specs.Prelude.{◌≡◌, List, ◌∷◌, ◌+◌, ◌≤◌, ◌<◌, length};
 ghost use Rattle.spec_policy.specs.Bytes.{Bytes};
 ghost use Rattle.spec_text.specs.Words.{lines, words};

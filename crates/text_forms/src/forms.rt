@@ -9,14 +9,14 @@ use file_records::{
     UNSATISFIABLE,
 };
 
-#[derive(Drop)]
+#[derive(Clone, Copy)]
 pub enum Sort {
     Node,
     Step,
 }
 
 // What a line says after its first word: a number up to a bound, or a set, and the place of the field that it is.
-#[derive(Drop)]
+#[derive(Clone, Copy)]
 pub enum Slot {
     Number(u8, u64),
     Actions(u8),
@@ -28,7 +28,7 @@ const WIDTH: usize = 22;
 
 // The usage is what is told of a line that is wrong, with spaces behind it up to the width: its first `length` bytes, of which the first
 // `word` are the line's first word. `room` is the most steps that the record may count.
-#[derive(Drop)]
+#[derive(Clone, Copy)]
 pub struct Form {
     pub usage: [u8; WIDTH],
     pub word: usize,

@@ -1,4 +1,6 @@
 // A line of a policy's text, read as a record's fields.
+#![tactic(auto)]
+
 ghost use Rattle.std.specs.Prelude.{◌≡◌, ◌≤◌, ◌<◌, T, length, drop};
 ghost use Rattle.spec_policy.specs.Lists.{every};
 ghost use Rattle.spec_text.specs.Words.{same_bytes, words};
@@ -50,7 +52,7 @@ pub fn form_of(word: &[u8]) -> usize
 // ---- what it says
 
 // The fields that a line's words say, as far as they were read; where the rest of them begins; and whether they fit so far.
-#[derive(Drop)]
+#[derive(Clone, Copy)]
 pub struct Filled {
     pub fields: [u64; 6],
     pub at: usize,
@@ -121,7 +123,7 @@ fn fill(line: &[u8], at: usize, form: usize) -> Filled
 // ---- the line
 
 // What a line is read as: its form by place, past the last for nothing and for what cannot be read; and its fields.
-#[derive(Drop)]
+#[derive(Clone, Copy)]
 pub struct Line {
     pub form: usize,
     pub fields: [u64; 6],

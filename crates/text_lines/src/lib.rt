@@ -1,4 +1,6 @@
 // A record printed as a line: its own, or its bytes in a remark where it has none.
+#![tactic(auto)]
+
 ghost use Rattle.std.specs.Prelude.{◌≡◌, [], ◌∷◌, ◌++◌, ◌<◌, length};
 ghost use Rattle.spec_text.specs.Words.{newline};
 ghost use Rattle.spec_text.specs.Forms.{size, fields_in};

@@ -1,4 +1,6 @@
 // A policy's text line by line: how many records it has, or the first line that cannot be read.
+#![tactic(auto)]
+
 ghost use Rattle.std.specs.Prelude.{◌≡◌, ℕ, ◌≤◌, ◌<◌, length};
 ghost use Rattle.spec_text.specs.Reading.{read_text};
 ghost use Rattle.text_forms.specs.Table.{form_count, node_forms, form_at};
@@ -25,7 +27,7 @@ pub fn line_end(text: &[u8], at: usize) -> usize
 }
 
 // The line at a place, and where the next one begins.
-#[derive(Drop)]
+#[derive(Clone, Copy)]
 pub struct At {
     pub line: Line,
     pub next: usize,
@@ -58,7 +60,7 @@ pub fn room_after(form: usize) -> usize
 }
 
 // How many records were read, how many more steps may follow, and whether the last line may stand where it does.
-#[derive(Drop)]
+#[derive(Clone, Copy)]
 pub struct Tally {
     pub nodes: usize,
     pub steps: usize,
@@ -111,7 +113,7 @@ fn counted(form: usize, t: Tally) -> Tally
     }
 }
 
-#[derive(Drop)]
+#[derive(Clone, Copy)]
 pub enum Outcome {
     Records(usize, usize),
     BadLine(usize),

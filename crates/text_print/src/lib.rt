@@ -1,5 +1,7 @@
 // A policy's records printed as text, whatever they hold, on slices that the caller lends. As much of the text is written as there is room for,
 // so on no room it is measured.
+#![tactic(auto)]
+
 ghost use Rattle.std.specs.Prelude.{◌-◌, ◌*◌, ◌/◌, ◌≤◌, length, drop};
 ghost use Rattle.spec_policy.specs.Records.{step_size};
 ghost use Rattle.spec_text.specs.Printing.{shown_steps, shown_left, shown_records};

@@ -1,4 +1,6 @@
 // A policy's text, read into two lent buffers of records.
+#![tactic(auto)]
+
 ghost use Rattle.std.specs.Prelude.{◌≡◌, List, ◌∷◌, ◌+◌, ◌≤◌, length, get_or, drop};
 ghost use Rattle.spec_text.specs.Forms.{node, step, Fields, record_of};
 ghost use Rattle.spec_text.specs.Reading.{Line, read_lines, read_text};
@@ -109,7 +111,7 @@ fn store(buffer: &mut [u8], at: usize, bytes: &[u8])
 }
 
 // How many records of each sort were copied.
-#[derive(Drop)]
+#[derive(Clone, Copy)]
 pub struct Places {
     pub nodes: usize,
     pub steps: usize,
@@ -166,7 +168,7 @@ fn copy(text: &[u8], nodes: &mut [u8], steps: &mut [u8])
     }
 }
 
-#[derive(Drop)]
+#[derive(Clone, Copy)]
 pub enum Answer {
     // The records that were written: nodes, steps.
     Read(usize, usize),

@@ -1,4 +1,6 @@
 // Which record a refusal is about: in words, put into a lent buffer, and by the line of a text that the record is read from.
+#![tactic(auto)]
+
 ghost use Rattle.std.specs.Prelude.{◌≡◌};
 ghost use Rattle.spec_policy.specs.Spots.{fault_on};
 ghost use Rattle.spec_text.specs.Forms.{Fields};
@@ -19,7 +21,7 @@ use text_measure::line_at;
 // ---- which record
 
 // A record by its number: a node, or a step, numbered over the whole file.
-#[derive(Drop)]
+#[derive(Clone, Copy)]
 enum Which {
     Nothing,
     Node(usize),
@@ -69,7 +71,7 @@ fn about(nodes: &[u8], fault: Fault) -> Which
 // ---- in words
 
 // The leaf that a step belongs to, and the step's offset in it.
-#[derive(Drop)]
+#[derive(Clone, Copy)]
 enum Owner {
     Nobody,
     Leaf(usize, usize),

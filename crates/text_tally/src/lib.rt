@@ -1,4 +1,6 @@
 // A tally as text, put into a lent buffer: a policy's records, each step led by how often it ran, and the actions that have a count.
+#![tactic(auto)]
+
 ghost use Rattle.std.specs.Prelude.{◌≡◌, ◌-◌, ◌*◌, ◌≤◌, ◌<◌, length, get_or, drop};
 ghost use Rattle.spec_policy.specs.Records.{step_size};
 ghost use Rattle.spec_trace.specs.Counts.{most_count};

@@ -1,4 +1,6 @@
 // A line of a policy's text: its words, and the numbers and sets that they are. A word is told by its places in the line.
+#![tactic(auto)]
+
 ghost use Rattle.std.specs.Prelude.{◌≡◌, ◌≤◌, [], ◌∷◌, length, drop};
 ghost use Rattle.std.proofs.Math.Seq.{slice};
 ghost use Rattle.actions.specs.Sets.{EMPTY};
@@ -63,7 +65,7 @@ fn word_end(line: &[u8], at: usize) -> usize
     i
 }
 
-#[derive(Drop)]
+#[derive(Clone, Copy)]
 pub struct Word {
     pub start: usize,
     pub end: usize,
@@ -94,7 +96,7 @@ pub fn next_word(line: &[u8], at: usize) -> Word
     }
 }
 
-#[derive(Drop)]
+#[derive(Clone, Copy)]
 pub enum Value {
     Number(u64),
     Nothing,
@@ -133,7 +135,7 @@ pub fn numeral(line: &[u8], start: usize, end: usize, most: u64) -> Value
 // ---- what stands after a line's first word
 
 // A value, and where its words end.
-#[derive(Drop)]
+#[derive(Clone, Copy)]
 pub enum Taken {
     Took(u64, usize),
     Nothing,

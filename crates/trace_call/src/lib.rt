@@ -1,4 +1,6 @@
 // A call of a run over a trace: on the tail of the event buffer, its steps and its events counted.
+#![tactic(auto)]
+
 ghost use Rattle.std.specs.Prelude.{◌≡◌};
 ghost use Rattle.spec_policy.specs.Tree.{regulated, tree};
 ghost use Rattle.spec_turns.specs.Entries.{carried_out};

@@ -1,4 +1,6 @@
 // What became of each action, counted by the bytes of a call's events.
+#![tactic(auto)]
+
 ghost use Rattle.std.specs.Prelude.{◌≡◌, ◌*◌, ◌≤◌, length};
 ghost use Rattle.trace_events.specs.Counts.{table_place, event_counted, bytes_tallied};
 

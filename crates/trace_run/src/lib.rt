@@ -1,4 +1,6 @@
 // A policy run over a trace: opening, the trace's actions and closing, their events one after another in one lent buffer, and a tally of steps and actions.
+#![tactic(auto)]
+
 ghost use Rattle.std.specs.Prelude.{[]};
 ghost use Rattle.spec_trace.specs.Traces.{follow, traces};
 ghost use Rattle.trace_run.specs.Reports.{Told, Running, run_of};
@@ -13,14 +15,14 @@ use turn_state::{STATE_SIZE, is_halted};
 use turn_tally::STEP_COUNTS;
 
 // By a refusal, or by none, where the root halts or is closed.
-#[derive(Drop)]
+#[derive(Clone, Copy)]
 pub enum Stop {
     Unrefused,
     RefusedWith(Fault),
 }
 
 // How the run ended, the actions judged, the events written, the root's status; or why it was not opened.
-#[derive(Drop)]
+#[derive(Clone, Copy)]
 pub enum Report {
     Unopened(Fault),
     Followed(Stop, usize, usize, u8),

@@ -119,7 +119,9 @@ fn load(batch: &[u8], from: usize, to: usize, buffer: &mut [u8]) -> usize
     requires { (from ≤ to) × (to ≤ length batch.now) × (to - from ≤ length buffer.old) }
     ensures { (result ≡ to - from) × (take result buffer.new ≡ part from to batch.now) }
 {
-    bytes::copy(&batch[from..to], buffer)
+    let size = to - from;
+    buffer[..size].copy_from_slice(&batch[from..to]);
+    size
 }
 
 // Makes the call on copies of its two buffers, which are left at the start of `state` and of `events`.

@@ -5,7 +5,7 @@ ghost use Rattle.trials.specs.Calls.{field_end, Found};
 use file_records::{byte, word16};
 
 // Where the policy, the state and the event buffer end. The policy begins at 3, the others two bytes after the end of the one before.
-#[derive(Drop)]
+#[derive(Clone, Copy)]
 pub struct Parts {
     pub entry: u8,
     pub policy: usize,
@@ -14,7 +14,7 @@ pub struct Parts {
     pub action: u8,
 }
 
-#[derive(Drop)]
+#[derive(Clone, Copy)]
 pub enum Call {
     Whole(Parts),
     // The call has at least so many bytes.

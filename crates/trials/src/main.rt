@@ -1,12 +1,15 @@
 // Reads a batch of calls on standard input and writes their answers on standard output, both in bytes, to be compared with another
 // guard's. What can be said of bytes is said in `calls` and `answers`; what is here only reads and writes.
+#![tactic(auto)]
+
 ghost use Rattle.std.specs.Prelude.{◌≡◌, ◌≤◌, ◌<◌, length};
 ghost use Rattle.trials.specs.Runs.{tally_start, tally_counts};
 ghost use Rattle.trials.specs.Calls.{longest, longest_field, Placed, Taken};
 
 use crate::answers::{call_answer, count_bytes, file_answer, policy_answer, trace_answer};
 use crate::calls::{Call, Parts, find};
-use libc::{STDIN_FILENO, STDOUT_FILENO};
+use run_input::read_full;
+use std::io::{Read, Write};
 use trace_events::ACTION_COUNTS;
 use turn_tally::STEP_COUNTS;
 
@@ -21,7 +24,8 @@ fn room() -> [u8; 196613]
 }
 
 // Reads the next call to the start of batch, and no byte after it. Short: the input has ended.
-fn read_call(batch: &mut [u8]) -> Call
+#[tactic(auto, unfolding(crate::specs::Calls::Found, crate::specs::Calls::Taken))]
+fn read_call<R: Read>(input: &mut R, batch: &mut [u8]) -> Call
     requires { longest ≤ length batch.old }
     ensures { Taken batch.new result }
 {
@@ -33,7 +37,7 @@ fn read_call(batch: &mut [u8]) -> Call
                 return Call::Whole(parts);
             }
             Call::Short(wanted) => {
-                if io::read_full(STDIN_FILENO, &mut batch[have..wanted]) != wanted - have {
+                if read_full(input, &mut batch[have..wanted]) != wanted - have {
                     return Call::Short(wanted);
                 }
                 have = wanted;
@@ -43,26 +47,32 @@ fn read_call(batch: &mut [u8]) -> Call
 }
 
 // Makes the call and writes its answer, and says whether that was written.
-fn write_call(batch: &[u8], parts: Parts, state: &mut [u8], events: &mut [u8]) -> bool
+fn write_call<W: Write>(
+    out: &mut W,
+    batch: &[u8],
+    parts: Parts,
+    state: &mut [u8],
+    events: &mut [u8],
+) -> bool
     requires { Placed batch.now parts × (longest_field ≤ length state.old) × (longest_field ≤ length events.old) }
 {
     let of_state = parts.state - (parts.policy + 2);
     let of_events = parts.events - (parts.state + 2);
     let bytes = call_answer(batch, parts, state, events);
-    let reply = io::write_all(STDOUT_FILENO, &bytes);
-    let saved = io::write_all(STDOUT_FILENO, &state[..of_state]);
-    let told = io::write_all(STDOUT_FILENO, &events[..of_events]);
+    let reply = out.write_all(&bytes).is_ok();
+    let saved = out.write_all(&state[..of_state]).is_ok();
+    let told = out.write_all(&events[..of_events]).is_ok();
     reply & saved & told
 }
 
 // The same of a call of the writer.
-fn write_file(batch: &[u8], parts: Parts, out: &mut [u8]) -> bool
-    requires { Placed batch.now parts × (longest_field ≤ length out.old) }
+fn write_file<W: Write>(out: &mut W, batch: &[u8], parts: Parts, room: &mut [u8]) -> bool
+    requires { Placed batch.now parts × (longest_field ≤ length room.old) }
 {
     let of_out = parts.events - (parts.state + 2);
-    let bytes = file_answer(batch, parts, out);
-    let reply = io::write_all(STDOUT_FILENO, &bytes);
-    let told = io::write_all(STDOUT_FILENO, &out[..of_out]);
+    let bytes = file_answer(batch, parts, room);
+    let reply = out.write_all(&bytes).is_ok();
+    let told = out.write_all(&room[..of_out]).is_ok();
     reply & told
 }
 
@@ -88,19 +98,29 @@ fn count_at(steps: &[u32; STEP_COUNTS], actions: &[u32; ACTION_COUNTS], i: usize
     actions[i - STEP_COUNTS]
 }
 
-fn write_tally(steps: &[u32; STEP_COUNTS], actions: &[u32; ACTION_COUNTS]) -> bool {
+fn write_tally<W: Write>(
+    out: &mut W,
+    steps: &[u32; STEP_COUNTS],
+    actions: &[u32; ACTION_COUNTS],
+) -> bool {
     let mut written = true;
     let mut i = 0;
     while i < TALLY_COUNTS {
         let bytes = count_bytes(count_at(steps, actions, i));
-        written = io::write_all(STDOUT_FILENO, &bytes) & written;
+        written = out.write_all(&bytes).is_ok() & written;
         i += 1;
     }
     written
 }
 
 // The same of a trace run.
-fn write_trace(batch: &[u8], parts: Parts, state: &mut [u8], events: &mut [u8]) -> bool
+fn write_trace<W: Write>(
+    out: &mut W,
+    batch: &[u8],
+    parts: Parts,
+    state: &mut [u8],
+    events: &mut [u8],
+) -> bool
     requires { Placed batch.now parts × (longest_field ≤ length state.old) × (longest_field ≤ length events.old) }
 {
     let of_state = parts.state - (parts.policy + 2);
@@ -109,50 +129,66 @@ fn write_trace(batch: &[u8], parts: Parts, state: &mut [u8], events: &mut [u8]) 
     let mut steps = [start; STEP_COUNTS];
     let mut actions = [start; ACTION_COUNTS];
     let bytes = trace_answer(batch, parts, state, events, &mut steps, &mut actions);
-    let report = io::write_all(STDOUT_FILENO, &bytes);
-    let saved = io::write_all(STDOUT_FILENO, &state[..of_state]);
-    let told = io::write_all(STDOUT_FILENO, &events[..of_events]);
-    let tallied = write_tally(&steps, &actions);
+    let report = out.write_all(&bytes).is_ok();
+    let saved = out.write_all(&state[..of_state]).is_ok();
+    let told = out.write_all(&events[..of_events]).is_ok();
+    let tallied = write_tally(out, &steps, &actions);
     report & saved & told & tallied
 }
 
 // Writes the answer, and says whether there was one.
-fn answer(batch: &[u8], parts: Parts, state: &mut [u8], events: &mut [u8]) -> bool
+fn answer<W: Write>(
+    out: &mut W,
+    batch: &[u8],
+    parts: Parts,
+    state: &mut [u8],
+    events: &mut [u8],
+) -> bool
     requires { Placed batch.now parts × (longest_field ≤ length state.old) × (longest_field ≤ length events.old) }
 {
     let entry = parts.entry;
     match entry {
         0 => {
             let bytes = policy_answer(batch, parts);
-            io::write_all(STDOUT_FILENO, &bytes)
+            out.write_all(&bytes).is_ok()
         }
-        1..=3 => write_call(batch, parts, state, events),
-        4 => write_file(batch, parts, events),
-        5 => write_trace(batch, parts, state, events),
+        1..=3 => write_call(out, batch, parts, state, events),
+        4 => write_file(out, batch, parts, events),
+        5 => write_trace(out, batch, parts, state, events),
         _ => false,
     }
 }
 
-fn answer_next(batch: &mut [u8], state: &mut [u8], events: &mut [u8]) -> bool
+#[tactic(auto, unfolding(crate::specs::Calls::Taken))]
+fn answer_next<R: Read, W: Write>(
+    input: &mut R,
+    out: &mut W,
+    batch: &mut [u8],
+    state: &mut [u8],
+    events: &mut [u8],
+) -> bool
     requires { (longest ≤ length batch.old) × (longest_field ≤ length state.old) × (longest_field ≤ length events.old) }
 {
-    let call = read_call(batch);
+    let call = read_call(input, batch);
     match call {
-        Call::Whole(parts) => answer(batch, parts, state, events),
+        Call::Whole(parts) => answer(out, batch, parts, state, events),
         Call::Short(_) => false,
     }
 }
 
-// A proved loop has to end, and nothing says that the input does: the loop counts down from a number that no run uses up.
-fn main() {
+// Room for the longest field, and a byte.
+const FIELD_ROOM: usize = 65536;
+
+// A proved loop has to end, and nothing says that the input does: the loop counts to a number that no run comes to.
+fn main(rt: HostRuntime) {
+    let mut input = rt.stdin();
+    let mut out = rt.stdout();
     let mut batch = room();
-    let mut state = io::large_buffer();
-    let mut events = io::large_buffer();
-    let mut turns = u64::MAX;
-    while turns > 0 {
-        if !answer_next(&mut batch, &mut state, &mut events) {
+    let mut state = [0u8; FIELD_ROOM];
+    let mut events = [0u8; FIELD_ROOM];
+    for _ in 0..u64::MAX {
+        if !answer_next(&mut input, &mut out, &mut batch, &mut state, &mut events) {
             return;
         }
-        turns -= 1;
     }
 }

@@ -1,4 +1,6 @@
 // What a node writes as its phase ends, or as an insert of its left side has been given on: its status, read from its sides.
+#![tactic(auto)]
+
 ghost use Rattle.std.specs.Prelude.{◌≡◌, ◌<◌, length, set};
 ghost use Rattle.spec_policy.specs.Records.{most_nodes};
 ghost use Rattle.turn_memory.specs.Words.{word_count, packed};

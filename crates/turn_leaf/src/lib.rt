@@ -1,4 +1,6 @@
 // A leaf's part of a phase: how it begins, and its run from where it is up to its next insert or to the phase's end.
+#![tactic(auto)]
+
 ghost use Rattle.std.specs.Prelude.{◌≡◌, true, ℕ, ◌<◌, length, get_or};
 ghost use Rattle.spec_policy.specs.Records.{most_nodes};
 ghost use Rattle.spec_policy.specs.Steps.{halt};
@@ -18,7 +20,7 @@ use turn_state::{ENDED, HALTED, RUNNING};
 use turn_tally::{STEP_COUNTS, count_step};
 
 // What a leaf's run came to: an insert, after which it goes on; or its phase's end, and whether it suppressed.
-#[derive(Drop)]
+#[derive(Clone, Copy)]
 pub enum Progress {
     Insert(u8),
     Done(bool),
@@ -26,7 +28,7 @@ pub enum Progress {
 
 // What ends a leaf's run: it stays at a next; it stops at the target, and whether it suppressed; it inserts, to go on from the
 // target; it is over, with its status.
-#[derive(Drop)]
+#[derive(Clone, Copy)]
 pub enum Last {
     Stay,
     Stops(u8, bool),
@@ -35,7 +37,7 @@ pub enum Last {
 }
 
 // Where one step leads: on at the target with what is left of the counter; or to the run's end; or, at a next, nowhere: a next runs when it is left.
-#[derive(Drop)]
+#[derive(Clone, Copy)]
 pub enum Move {
     On(u8, u64),
     Ends(Last),
@@ -43,7 +45,7 @@ pub enum Move {
 }
 
 // How far a leaf goes by itself: what ended the run, and the offset and the counter there.
-#[derive(Drop)]
+#[derive(Clone, Copy)]
 pub struct Stop {
     pub last: Last,
     pub offset: u8,

@@ -1,5 +1,7 @@
 // The memory of a call, lent down the turn as one array. A node's cell is one word, its record of the state as a big-endian number; then
 // come the inserts that were let out, and the tables. One array is one pointer: a slice is two words in every frame of the turn.
+#![tactic(auto)]
+
 ghost use Rattle.std.specs.Prelude.{◌≡◌, ◌<◌, length, get_or, set};
 ghost use Rattle.turn_memory.specs.Words.{word_count, status_in, offset_in, mark_in, counter_in, packed, pushed};
 

@@ -1,5 +1,7 @@
 // The turn: a node's phase, from its begin to its end. An insert goes up from the leaf that makes it: each sequential node on whose left side it is made
 // gives it to its right side as a turn of its own. A phase is one number: the action that it is about, before the verdict; 64 after it; 65 at closing.
+#![tactic(auto)]
+
 ghost use Rattle.std.specs.Prelude.{◌≡◌, true, false, List, ℕ, ◌≤◌, ◌<◌, eqb};
 ghost use Rattle.actions.specs.Sets.{Action, has};
 ghost use Rattle.spec_policy.specs.Tree.{parallel, sequential, aLeaf, aPair};
@@ -25,7 +27,7 @@ use turn_tables::NONE;
 use turn_tally::STEP_COUNTS;
 
 // A node's phase: only a node that is asked has one.
-#[cycle(after_left_asked_turn_emit_leaf_parallel_right_first_rise_sequential_settle_insert_sink_turn)]
+#[cycle(turns)]
 pub fn turn(
     policy: &[u8],
     mem: &mut [u64; WORDS],
@@ -45,7 +47,7 @@ pub fn turn(
 }
 
 // The phase of a node that is asked.
-#[cycle(after_left_asked_turn_emit_leaf_parallel_right_first_rise_sequential_settle_insert_sink_turn)]
+#[cycle(turns)]
 fn asked_turn(
     policy: &[u8],
     mem: &mut [u64; WORDS],
@@ -74,7 +76,7 @@ fn asked_turn(
 // ---- a leaf
 
 // "A leaf's: go on to a next, end or halt": each insert goes its way before the leaf goes on.
-#[cycle(after_left_asked_turn_emit_leaf_parallel_right_first_rise_sequential_settle_insert_sink_turn)]
+#[cycle(turns)]
 fn leaf(
     policy: &[u8],
     mem: &mut [u64; WORDS],
@@ -107,7 +109,7 @@ fn leaf(
 // ---- a node with two sides
 
 // "Both asked sides run the phase to its end, left first; then the node's status is read."
-#[cycle(after_left_asked_turn_emit_leaf_parallel_right_first_rise_sequential_settle_insert_sink_turn)]
+#[cycle(turns)]
 fn parallel(
     policy: &[u8],
     mem: &mut [u64; WORDS],
@@ -133,7 +135,7 @@ fn parallel(
 }
 
 // "Before: the left side runs if asked"; "a sequential node closes its left side first". After the verdict the right side goes first.
-#[cycle(after_left_asked_turn_emit_leaf_parallel_right_first_rise_sequential_settle_insert_sink_turn)]
+#[cycle(turns)]
 fn sequential(
     policy: &[u8],
     mem: &mut [u64; WORDS],
@@ -157,7 +159,7 @@ fn sequential(
 }
 
 // "After: the right first, if it was asked on a, then the left, if asked".
-#[cycle(after_left_asked_turn_emit_leaf_parallel_right_first_rise_sequential_settle_insert_sink_turn)]
+#[cycle(turns)]
 fn right_first(
     policy: &[u8],
     mem: &mut [u64; WORDS],
@@ -184,7 +186,7 @@ fn right_first(
 }
 
 // The right side's own part, or the end: "If the left suppressed a, the verdict is suppressed; otherwise the right is asked."
-#[cycle(after_left_asked_turn_emit_leaf_parallel_right_first_rise_sequential_settle_insert_sink_turn)]
+#[cycle(turns)]
 fn after_left(
     policy: &[u8],
     mem: &mut [u64; WORDS],
@@ -215,7 +217,7 @@ fn after_left(
 // ---- inserts
 
 // An insert of a node goes its way: up, as far as the right sides let it, and down again.
-#[cycle(after_left_asked_turn_emit_leaf_parallel_right_first_rise_sequential_settle_insert_sink_turn)]
+#[cycle(turns)]
 fn emit(
     policy: &[u8],
     mem: &mut [u64; WORDS],
@@ -236,7 +238,7 @@ fn emit(
 }
 
 // How far an insert rose: the nodes whose right side took it, the last of them, and the node that stopped it, if one did.
-#[derive(Drop)]
+#[derive(Clone, Copy)]
 pub struct Risen {
     pub fed: ActionSet,
     pub top: usize,
@@ -244,7 +246,7 @@ pub struct Risen {
 }
 
 // "each insert of the left side that the right regulates is given to the right as a turn of its own. Accepted, it is emitted between that turn's phases".
-#[cycle(after_left_asked_turn_emit_leaf_parallel_right_first_rise_sequential_settle_insert_sink_turn)]
+#[cycle(turns)]
 fn rise(
     policy: &[u8],
     mem: &mut [u64; WORDS],
@@ -290,7 +292,7 @@ fn rise(
 }
 
 // The nodes that took it, from above, which is by their numbers: each has its part to do.
-#[cycle(after_left_asked_turn_emit_leaf_parallel_right_first_rise_sequential_settle_insert_sink_turn)]
+#[cycle(turns)]
 fn sink(
     policy: &[u8],
     mem: &mut [u64; WORDS],
@@ -322,7 +324,7 @@ fn sink(
 }
 
 // A node's part once an insert is through above it: its right side's phase after the verdict, and "Status is read after each insert".
-#[cycle(after_left_asked_turn_emit_leaf_parallel_right_first_rise_sequential_settle_insert_sink_turn)]
+#[cycle(turns)]
 fn settle_insert(
     policy: &[u8],
     mem: &mut [u64; WORDS],

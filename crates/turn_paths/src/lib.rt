@@ -1,1 +1,2 @@
 // Where a node's phase runs in the root's: definitions and theorems, no code.
+#![tactic(auto)]

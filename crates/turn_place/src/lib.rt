@@ -1,4 +1,6 @@
 // What a turn finds at a node of the file: where its leaf's steps are, and which node above takes an insert.
+#![tactic(auto)]
+
 ghost use Rattle.std.specs.Prelude.{◌≡◌, ◌≤◌, ltb, eqb};
 ghost use Rattle.spec_policy.specs.Tree.{aLeaf};
 ghost use Rattle.turn_paths.specs.Choices.{emits};
@@ -19,7 +21,7 @@ use turn_tally::STEP_COUNTS;
 // ---- a leaf
 
 // The number of a leaf's first step, and how many steps it has.
-#[derive(Drop)]
+#[derive(Clone, Copy)]
 struct Steps {
     first: usize,
     count: usize,

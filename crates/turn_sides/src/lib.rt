@@ -1,4 +1,6 @@
 // A node's sides in the file, how their statuses join, and what the node decides from them.
+#![tactic(auto)]
+
 ghost use Rattle.std.specs.Prelude.{◌≡◌, ◌+◌, ◌<◌, eqb, get_or};
 ghost use Rattle.spec_policy.specs.Records.{most_nodes};
 ghost use Rattle.spec_policy.specs.Tree.{and, or};

@@ -1,5 +1,7 @@
 // The saved state's bytes: the count in front, where the record of a node stands, what its bytes say, and the numbers of the statuses. No
 // other crate of code knows any of them.
+#![tactic(auto)]
+
 ghost use Rattle.std.specs.Prelude.{◌≡◌, ◌&&◌, ◌++◌, ◌+◌, ◌*◌, ◌-◌, ◌≤◌, ◌<◌, eqb, length, drop, replicate};
 ghost use Rattle.spec_policy.specs.Bytes.{number, spell, put};
 ghost use Rattle.spec_policy.specs.Lists.{one, every};

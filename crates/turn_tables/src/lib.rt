@@ -1,5 +1,7 @@
 // The tables of a call, in the words from 64 on: what the turn looks up of every node. Two passes make them: one from the last node down, so that a
 // node finds its children's sets entered; and one from the root on, so that a node finds its own way up entered before its sides'.
+#![tactic(auto)]
+
 ghost use Rattle.std.specs.Prelude.{◌≡◌, ℕ, ◌+◌, ◌≤◌, ◌<◌, length};
 ghost use Rattle.spec_policy.specs.Records.{node_size, node_count, step_count, node_at, most_nodes, node_place};
 ghost use Rattle.spec_policy.specs.Tree.{steps_owned, regulated, tree_at};

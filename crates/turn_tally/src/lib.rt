@@ -1,4 +1,6 @@
 // The counts of steps that a run over a trace keeps: lent down the turn as one array, and counted only where that is asked.
+#![tactic(auto)]
+
 ghost use Rattle.std.specs.Prelude.{◌≡◌};
 ghost use Rattle.spec_trace.specs.Counts.{more};
 ghost use Rattle.spec_trace.specs.Tallies.{step_if};

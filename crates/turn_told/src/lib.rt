@@ -1,4 +1,6 @@
 // The inserts that a phase let out, told as events: they wait in the call's memory until the phase has ended.
+#![tactic(auto)]
+
 ghost use Rattle.std.specs.Prelude.{◌≡◌, List, ◌+◌, ◌*◌, ◌≤◌, length, get_or};
 ghost use Rattle.actions.specs.Sets.{Action};
 ghost use Rattle.turn_memory.specs.Words.{count_place, word_count};
