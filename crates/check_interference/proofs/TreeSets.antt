@@ -8,8 +8,6 @@ use lib.Dec.{eqb}
 use lib.ListN.{length, get_or, set, length-set}
 use lib.Seq.{get_or-set_same, get_or-set_other}
 use borrow.Author.Tests.{eqb-true, eqb-false}
-use types.Run.{OneOf, miss}
-use denote.Enum.Declared.{tag_of}
 use Rattle.actions.specs.Sets.{ActionSet, EMPTY, union, meets}
 use Rattle.spec_policy.specs.Bytes.{Bytes}
 use Rattle.spec_policy.specs.Steps.{Step}
@@ -26,7 +24,6 @@ use Rattle.file_records.specs.declared.Way.{Way as ReadWay}
 use Rattle.file_records.specs.declared.Join.{Join}
 use Rattle.file_records.specs.declared.Kind.{Kind}
 use Rattle.file_records.specs.declared.Kind.TheVariants.{Leaf, Trivial, Unsatisfiable, Pair, Unknown}
-use Rattle.file_records.specs.contracts.Kind.{the_type}
 use Rattle.check_layout.specs.Frame.{Framed}
 use Rattle.check_layout.proofs.Frame.{node-list}
 use Rattle.check_leaves.specs.Leaves.{LeafValues}
@@ -159,17 +156,17 @@ module _ {file : Bytes} {n m i place : ℕ} {q : Kind} (d : Read file n m i plac
         ec ∙ (λ u. is_parallel (way_of w) && (meets (q.0 u) (p.1 u) || meets (q.1 u) (p.0 u))) ∙ crossed-node (way_of w) (tree_at file l) (tree_at file r) ∙ ap crossed pair-tree
 
   -- neither a leaf nor a pair
-  pub no-sets : OneOf (1 ∷ 2 ∷ 4 ∷ []) (tag_of the_type q) → (EMPTY ≡ regulated (tree_at file i)) × (EMPTY ≡ effects (tree_at file i)) × (false ≡ crossed (tree_at file i))
+  pub no-sets : (q ≡ Leaf → ⊥) → ((w : ReadWay) → (j : Join) → q ≡ Pair w j → ⊥) → (EMPTY ≡ regulated (tree_at file i)) × (EMPTY ≡ effects (tree_at file i)) × (false ≡ crossed (tree_at file i))
   unfolding kind_of shaped regulated effects crossed
-  no-sets o = go q o (tree-here refl)
+  no-sets is_leaf is_pair = go q refl (tree-here refl)
     where
-      go : (y : Kind) → OneOf (1 ∷ 2 ∷ 4 ∷ []) (tag_of the_type y) → tree_at file i ≡ shaped (kind_of y) i here (tree_at file x.left) (tree_at file x.right)
+      go : (y : Kind) → q ≡ y → tree_at file i ≡ shaped (kind_of y) i here (tree_at file x.left) (tree_at file x.right)
           → (EMPTY ≡ regulated (tree_at file i)) × (EMPTY ≡ effects (tree_at file i)) × (false ≡ crossed (tree_at file i))
-      go Trivial o u = (sym (ap regulated u), sym (ap effects u), sym (ap crossed u))
-      go Unsatisfiable o u = (sym (ap regulated u), sym (ap effects u), sym (ap crossed u))
-      go Unknown o u = (sym (ap regulated u), sym (ap effects u), sym (ap crossed u))
-      go Leaf o u = absurd (miss (1 ∷ 2 ∷ 4 ∷ []) 0 tt o)
-      go (Pair w j) o u = absurd (miss (1 ∷ 2 ∷ 4 ∷ []) 3 tt o)
+      go Trivial e u = (sym (ap regulated u), sym (ap effects u), sym (ap crossed u))
+      go Unsatisfiable e u = (sym (ap regulated u), sym (ap effects u), sym (ap crossed u))
+      go Unknown e u = (sym (ap regulated u), sym (ap effects u), sym (ap crossed u))
+      go Leaf e u = absurd (is_leaf e)
+      go (Pair w j) e u = absurd (is_pair w j e)
 
 -- ---- rule 9
 

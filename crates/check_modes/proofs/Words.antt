@@ -4,7 +4,7 @@ use native.Mathlib.Nat.{one-mul, zero-add, zero-div}
 use native.Mathlib.Omega.{arith}
 use mathlib.Core.Path.{◌≡◌, refl, sym, ap, ◌∙◌, subst}
 use mathlib.Core.Bool.{Bool, false, ◌&&◌, ◌||◌, or_comm, or-false}
-use mathlib.Core.List.{List, [], ◌∷◌}
+use mathlib.Core.List.{[], ◌∷◌}
 use mathlib.Core.Logic.{⊎_elim}
 use lib.Dec.{T, eqb, ltb, eqb→eq, lit<}
 use lib.Pow.{shl_exact, shr-shr}
@@ -15,7 +15,7 @@ use Rattle.actions.proofs.SetLaws.{has-action, has-none, has-empty, single-actio
 use Rattle.spec_policy.specs.Lists.{listed, every}
 use Rattle.spec_policy.proofs.ListLaws.{listed-length, listed_at, every-at}
 use Rattle.spec_check.proofs.Ahead.{in-or-out}
-use Rattle.spec_check.specs.Modes.{Mode, idle, pending, closing, is_idle, is_pending, is_closing, same_mode, Mark, marked}
+use Rattle.spec_check.specs.Modes.{Mode, idle, pending, closing, is_idle, is_pending, is_closing, same_mode, marked}
 use Rattle.check_modes.specs.declared.Marks.{Marks}
 use Rattle.check_modes.specs.Table.{mode_number, reaching}
 use Rattle.check_modes.specs.Marks.{word, Agrees, Adds}

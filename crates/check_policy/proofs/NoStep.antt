@@ -1,18 +1,17 @@
 -- A file with no step. No node of it is a leaf, so that rules 6 to 10 ask nothing of it, and its two sets are empty.
 use Prim.Native.Nat.{ℕ, zero, suc, ◌<◌}
 use native.Mathlib.Omega.{arith}
-use mathlib.Core.Path.{◌≡◌, refl, sym, ap, ap₂, ◌∙◌, subst}
+use mathlib.Core.Path.{◌≡◌, refl, sym, ap, ap₂, ◌∙◌}
 use mathlib.Core.Bool.{Bool, true, false, ◌||◌, not}
 use mathlib.Core.List.{List, [], ◌∷◌, map}
 use lib.Dec.{leb}
-use lib.ListN.{length}
 use Rattle.actions.specs.Sets.{ActionSet, EMPTY, union, meets}
 use Rattle.actions.proofs.SetLaws.{union-none}
 use Rattle.actions.proofs.Tests.{true-not-false}
 use Rattle.spec_policy.specs.Bytes.{Bytes}
 use Rattle.spec_policy.specs.Lists.{summed, every, listed}
-use Rattle.spec_policy.specs.Records.{Node, StepRecord, node_at, node_place, node_count, nodes, step_record_at, step_place, step_records}
-use Rattle.spec_policy.specs.Spots.{Spot, nowhere, first_off, somewhere}
+use Rattle.spec_policy.specs.Records.{Node, node_at, node_place, nodes, step_record_at, step_place, step_records}
+use Rattle.spec_policy.specs.Spots.{nowhere, first_off, somewhere}
 use Rattle.spec_policy.specs.Steps.{Step}
 use Rattle.spec_policy.specs.Tree.{Way, parallel, sequential, Join, NodeKind, aLeaf, aTrivial, an_unsatisfiable, aPair, no_node, node_kind, steps_owned, NodeSteps, nodes_with_steps}
 use Rattle.spec_policy.specs.Tree.{Tree, node, tree_under, tree, tree_at, regulated}
@@ -20,9 +19,9 @@ use Rattle.spec_policy.proofs.NodeLaws.{nodes-length}
 use Rattle.spec_check.specs.Leaves.{every_leaf}
 use Rattle.spec_check.specs.Layout.{step_fits, broken4}
 use Rattle.spec_check.specs.Children.{broken5}
-use Rattle.spec_check.specs.Targets.{targets_fit, broken6}
-use Rattle.spec_check.specs.Modes.{modes_fit, broken7}
-use Rattle.spec_check.specs.Possible.{all_taken, broken8}
+use Rattle.spec_check.specs.Targets.{targets_fit}
+use Rattle.spec_check.specs.Modes.{modes_fit}
+use Rattle.spec_check.specs.Possible.{all_taken}
 use Rattle.spec_check.specs.Interference.{effects, interfere, crossed, wrong9, broken9}
 use Rattle.spec_check.specs.Spread.{spread_of, spread, wrong10, broken10}
 use Rattle.spec_check.specs.Numbers.{kind_in}

@@ -8,8 +8,6 @@ use lib.Dec.{eqb}
 use lib.ListN.{length, drop, drop_of_length-le}
 use lib.Seq.{drop-cons}
 use borrow.Author.Tests.{not-false, eqb-true}
-use types.Run.{OneOf, miss}
-use denote.Enum.Declared.{tag_of}
 use Rattle.actions.specs.Sets.{ActionSet}
 use Rattle.actions.proofs.Tests.{and_first, and_second, or-false-left, or-false-right}
 use Rattle.spec_policy.specs.Bytes.{Bytes}
@@ -31,7 +29,6 @@ use Rattle.file_records.specs.Code.{code_at}
 use Rattle.file_records.specs.Kinds.{kind_of}
 use Rattle.file_records.specs.declared.Kind.{Kind}
 use Rattle.file_records.specs.declared.Kind.TheVariants.{Leaf, Trivial, Unsatisfiable, Pair, Unknown}
-use Rattle.file_records.specs.contracts.Kind.{the_type}
 use Rattle.check_layout.specs.Frame.{Framed}
 use Rattle.check_layout.specs.Fits.{nodes_fit}
 use Rattle.check_leaves.specs.Leaves.{node_passes}
@@ -48,9 +45,9 @@ module _ (f : ActionSet → List Step → Spot) (x : Node) (code : List Step) wh
   leaf-off e = rw (sym e, in_node) refl
 
   -- a node that is no leaf
-  pub other-off : (q : Kind) → kind_of q ≡ node_kind x.kind → OneOf (1 ∷ 2 ∷ 3 ∷ 4 ∷ []) (tag_of the_type q) → nowhere ≡ in_node f x code
+  pub other-off : (q : Kind) → kind_of q ≡ node_kind x.kind → (q ≡ Leaf → ⊥) → nowhere ≡ in_node f x code
   unfolding in_node kind_of
-  other-off Leaf e o = absurd (miss (1 ∷ 2 ∷ 3 ∷ 4 ∷ []) 0 tt o)
+  other-off Leaf e o = absurd (o refl)
   other-off Trivial e o = rw (sym e, in_node) refl
   other-off Unsatisfiable e o = rw (sym e, in_node) refl
   other-off (Pair w j) e o = rw (sym e, in_node) refl

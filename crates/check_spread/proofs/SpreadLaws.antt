@@ -24,14 +24,11 @@ use Rattle.spec_check.specs.Numbers.{node_steps_in, shaped}
 use Rattle.spec_check.proofs.Numbers.{ChildrenLater, kind-read, tree-read, children-read}
 use Rattle.spec_check.proofs.Rows.{leaf-steps}
 use Rattle.spec_policy.specs.Tree.{tree_at}
-use types.Run.{OneOf, miss}
-use denote.Enum.Declared.{tag_of}
 use Rattle.file_records.specs.Kinds.{way_of, kind_of}
 use Rattle.file_records.specs.declared.Way.{Way as ReadWay}
 use Rattle.file_records.specs.declared.Join.{Join}
 use Rattle.file_records.specs.declared.Kind.{Kind}
 use Rattle.file_records.specs.declared.Kind.TheVariants.{Leaf, Trivial, Unsatisfiable, Pair, Unknown}
-use Rattle.file_records.specs.contracts.Kind.{the_type}
 use Rattle.check_layout.specs.Frame.{Framed}
 use Rattle.check_layout.proofs.Frame.{node-list}
 use Rattle.check_leaves.specs.Leaves.{inserts_in, LeafValues}
@@ -256,14 +253,14 @@ module _ {file : Bytes} {n m i place : ℕ} {q : Kind} (d : Read file n m i plac
         ∙ cap-pair (way_of w) (spread (tree_at file x.left)) (spread (tree_at file x.right)) ∙ ap capped (sym (tree_is (is-kind told)))
 
   -- neither a leaf nor a pair
-  pub other-kept : OneOf (1 ∷ 2 ∷ 4 ∷ []) (tag_of the_type q) → 0 ≡ capped (tree_at file i)
+  pub other-kept : (q ≡ Leaf → ⊥) → ((w : ReadWay) → (j : Join) → q ≡ Pair w j → ⊥) → 0 ≡ capped (tree_at file i)
   unfolding capped cap spread shaped kind_of
-  other-kept o = go q o (tree_is (is-kind refl))
+  other-kept leaf pair = go q refl (tree_is (is-kind refl))
     where
-      go : (y : Kind) → OneOf (1 ∷ 2 ∷ 4 ∷ []) (tag_of the_type y)
+      go : (y : Kind) → q ≡ y
           → tree_at file i ≡ shaped (kind_of y) i (node_steps_in (nodes_with_steps file) i) (tree_at file x.left) (tree_at file x.right) → 0 ≡ capped (tree_at file i)
-      go Trivial o u = ap capped (sym u)
-      go Unsatisfiable o u = ap capped (sym u)
-      go Unknown o u = ap capped (sym u)
-      go Leaf o u = absurd (miss (1 ∷ 2 ∷ 4 ∷ []) 0 tt o)
-      go (Pair w j) o u = absurd (miss (1 ∷ 2 ∷ 4 ∷ []) 3 tt o)
+      go Trivial e u = ap capped (sym u)
+      go Unsatisfiable e u = ap capped (sym u)
+      go Unknown e u = ap capped (sym u)
+      go Leaf e u = absurd (leaf e)
+      go (Pair w j) e u = absurd (pair w j e)

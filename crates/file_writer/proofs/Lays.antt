@@ -24,17 +24,12 @@ use Rattle.file_writer.specs.declared.Written.{Written}
 use Rattle.file_writer.specs.declared.Written.TheVariants.{Wrote, Refused}
 use Rattle.spec_writer.proofs.Files.{written-length, unlent, by-check}
 
--- bytes copied to the start of what follows the first `at` bytes
-pub copied : (bs from ys : Bytes) (at : ℕ) → at + length from ≤ length bs
-    → ys ≡ take (length from) from ++ drop (length from) (mid_of at (length bs - at) bs) → put_mid at (length bs - at) bs ys ≡ put bs at from
+-- bytes copied over as many bytes from a place on
+pub copied : (bs from : Bytes) (at : ℕ) → put_mid at (at + length from - at) bs from ≡ put bs at from
 unfolding put
-copied bs from ys at h e =
-    let k : ℕ = length bs - at in
-    let t : length from ≤ length (take k (drop at bs)) = rw (length-take-le k (drop at bs) (simp length-drop (omega arith))) (omega arith) in
-    let d : drop (length from) (take k (drop at bs)) ++ drop k (drop at bs) ≡ drop (at + length from) bs =
-    sym (drop-append-le (length from) (take k (drop at bs)) (drop k (drop at bs)) t) ∙ ap (drop (length from)) (take-append-drop k (drop at bs)) ∙ drop-drop (length from) at bs in
-    ap (λ (zs : Bytes). take at bs ++ (zs ++ drop k (drop at bs))) (e ∙ ap (λ (zs : Bytes). zs ++ drop (length from) (take k (drop at bs))) (take-length from))
-    ∙ ap (λ (zs : Bytes). take at bs ++ zs) (append_assoc from (drop (length from) (take k (drop at bs))) (drop k (drop at bs)) ∙ ap (λ (zs : Bytes). from ++ zs) d)
+copied bs from at =
+    let k : at + length from - at ≡ length from = omega arith in
+    ap (λ (n : ℕ). take at bs ++ (from ++ drop n (drop at bs))) k ∙ ap (λ (zs : Bytes). take at bs ++ (from ++ zs)) (drop-drop (length from) at bs)
 
 -- the front, the nodes and the steps
 pub laid_out : (nodes steps out : Bytes) {front a b c : Bytes} {size : ℕ} → size ≡ length (written nodes steps) → Lent nodes steps → length (written nodes steps) ≤ length out

@@ -1,23 +1,22 @@
--- A tally in memory is its two arrays of counts in memory, side by side, and back at any two lists: so both are lent at once.
+-- A tally in memory is its two arrays of counts in memory, side by side, the steps at 0 and the actions at 2,048, as C has them, and back at any two lists. No
+-- proof stands on it: it says where the two lie, which no contract says.
 --     out      a tally that lies at (b, o) gives its two arrays, and `Back`
 --     back     two arrays that lie there, with `Back`, are the tally of the two lists
-use mathlib.Core.Path.{refl, sym}
 use Prim.Native.Nat.{ℕ, ◌+◌}
-use mathlib.Core.List.{List, [], ◌∷◌, map-id}
+use mathlib.Core.List.{List, [], ◌∷◌}
 use seplogic.Ra.Ura.{Ura}
-use seplogic.Ra.TreeShare.{full_share}
+use base.Fraction.{full_share}
 use mir.Syntax.{w32, ty_int, ty_array}
 use base.Logic.{SProp, ent, sep, wand, all_e, apply∗}
 use base.Fml.{Fml, fsep, ftrue}
 use types.Logic.{Logic, sem}
-use types.Kit.{‵, raw, ◌⊛◌, ◌$◌, ◌∵◌, !, qed, move, keep, use1, use2, split, rewrite, fsplit, fjoin, done}
+use types.Kit.{‵, raw, ◌⊛◌, ◌$◌, ◌∵◌, !, qed, move, keep, use1, use2, split, fsplit, fjoin, done}
 use denote.RattleType.{Denots}
 use denote.Laws.{Lawfuls}
 use denote.Memory.{part_at, part_of}
 use denote.Plain.{uint_Lawful}
 use denote.Builtin.{u32}
 use denote.Array.{Array, Array-Lawful}
-use denote.Index.{row}
 use denote.Struct.Struct.{Struct}
 use denote.Struct.Declared.{shape}
 use denote.Struct.Members.{Member, rows_of, parts_at}
@@ -50,9 +49,7 @@ module _ {M : Type 1} {𝓤 : Ura M} (𝓛 : Logic 𝓤) (b o : ℕ) where
       (sep 𝓤 (sem 𝓛 (part_at (Array u32 512) full_share h.steps b (o + 0))) (sep 𝓤 (sem 𝓛 (part_at (Array u32 192) full_share h.actions b (o + 2048))) Back))
   out h =
       qed 𝓛 (‵ (part_at T.the_row full_share h b o) ∷ []) ∵
-      use1 𝓛 (‵ (parts_at full_share members 0 ((T.the_type).to h) b o) ⊛ raw Back) (cut h) $ split ! $ fsplit ! $
-      rewrite ! 0 (λ (xs : List ℕ). ‵ (part_at (Array u32 512) full_share xs b (o + 0))) (map-id h.steps) refl $ move ! (1 ∷ []) $ fsplit ! $
-      rewrite ! 0 (λ (xs : List ℕ). ‵ (part_at (Array u32 192) full_share xs b (o + 2048))) (map-id h.actions) refl $
+      use1 𝓛 (‵ (parts_at full_share members 0 ((T.the_type).to h) b o) ⊛ raw Back) (cut h) $ split ! $ fsplit ! $ move ! (1 ∷ []) $ fsplit ! $
       -- [the actions' array; true; the steps' array; the way back]
       keep ! (2 ∷ 0 ∷ 3 ∷ []) $ done !
 
@@ -66,8 +63,6 @@ module _ {M : Type 1} {𝓤 : Ura M} (𝓛 : Logic 𝓤) (b o : ℕ) where
 
   pub back : (xs ys : List ℕ) → ent 𝓤 (sep 𝓤 Back (sep 𝓤 (sem 𝓛 (part_at (Array u32 512) full_share xs b (o + 0))) (sem 𝓛 (part_at (Array u32 192) full_share ys b (o + 2048))))) (sem 𝓛 (part_at T.the_row full_share (record { steps = xs; actions = ys }) b o))
   back xs ys =
-      qed 𝓛 (raw Back ∷ ‵ (part_at (Array u32 512) full_share xs b (o + 0)) ∷ ‵ (part_at (Array u32 192) full_share ys b (o + 2048)) ∷ []) ∵ move ! (2 ∷ []) $
-      rewrite ! 0 (λ (zs : List ℕ). ‵ (part_at (Array u32 192) full_share zs b (o + 2048))) (sym (map-id ys)) refl $ nothing ! $ move ! (1 ∷ 0 ∷ []) $ fjoin ! $
-      -- [the actions' array; the way back; the steps' array]
-      move ! (2 ∷ []) $ rewrite ! 0 (λ (zs : List ℕ). ‵ (part_at (Array u32 512) full_share zs b (o + 0))) (sym (map-id xs)) refl $ fjoin ! $ move ! (1 ∷ 0 ∷ []) $
+      qed 𝓛 (raw Back ∷ ‵ (part_at (Array u32 512) full_share xs b (o + 0)) ∷ ‵ (part_at (Array u32 192) full_share ys b (o + 2048)) ∷ []) ∵ nothing ! $
+      move ! (3 ∷ 0 ∷ []) $ fjoin ! $ move ! (2 ∷ 0 ∷ []) $ fjoin ! $ move ! (1 ∷ 0 ∷ []) $
       use2 𝓛 (‵ (part_at T.the_row full_share (record { steps = xs; actions = ys }) b o)) (shut (record { steps = xs; actions = ys })) $ done !

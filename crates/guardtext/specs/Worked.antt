@@ -2,7 +2,7 @@
 use Prim.Native.String.{String}
 use Rattle.std.specs.Prelude.{◌≡◌, List, [], ◌∷◌, ◌++◌, map, take, replicate}
 use Rattle.spec_policy.specs.Bytes.{Bytes}
-use Rattle.spec_policy.specs.Parts.{node, step, next, ok, sup, end, halt, file, pair_of, leaf_of, file_of, pair, «V», W, built}
+use Rattle.spec_policy.specs.Parts.{node, step, next, ok, end, halt, file, pair_of, leaf_of, file_of, pair, «V», W, built}
 use Rattle.spec_text.specs.Words.{ascii}
 use Rattle.guardtext.specs.Shown.{shown}
 

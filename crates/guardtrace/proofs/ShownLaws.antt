@@ -1,5 +1,5 @@
 -- What is printed of a run, as the code finds it, and that there is room for it.
-use Prim.Native.Nat.{ℕ, ◌-◌, ◌≤◌, ◌<◌, min}
+use Prim.Native.Nat.{ℕ, ◌-◌, ◌≤◌, ◌<◌}
 use native.Mathlib.Omega.{arith}
 use mathlib.Core.Path.{◌≡◌, refl, sym, ap, ap₂, ◌∙◌, subst}
 use mathlib.Core.Logic.{⊎_elim}
@@ -19,7 +19,6 @@ use Rattle.spec_trace.specs.Traces.{Stop, unrefused, refused_with, Report, unope
 use Rattle.run_input.specs.Ends.{policy_end, policy_part}
 use Rattle.run_report.proofs.RoomLaws.{word-length}
 use Rattle.text_append.specs.Added.{Tells}
-use Rattle.text_append.specs.Refusal.{refusal}
 use Rattle.text_append.proofs.AddedLaws.{decimal-below, refusal-short}
 use Rattle.text_print.proofs.FileLaws.{nodes-few, steps-few, nodes-are, steps-are, nodes-small, steps-small}
 use Rattle.text_tally.specs.Lines.{numbered, tally_text}

@@ -55,6 +55,7 @@ module _ (file : Bytes) where
 
   lowest-inside : (n p : ℕ) (rs : List Rule) → AllInside rs → Lowest file (fault_on n p) rs → Inside file p
   unfolding AllInside
+  lowest-inside n p [] t x = elim x [ ]
   lowest-inside n p (r ∷ rs) t (here b e) = t.0 p (ap (λ (f : Fault). f.spot) e)
   lowest-inside n p (r ∷ rs) t (after b l) = lowest-inside n p rs (t.1 b) l
 

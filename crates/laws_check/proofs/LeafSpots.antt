@@ -83,7 +83,7 @@ module _ (f : ActionSet → List Step → Spot) where
     later-leaf none r = record {
       leaf = suc r.leaf;
       offset = r.offset;
-      is-leaf = r.is_leaf;
+      is-leaf = r.is-leaf;
       found = r.found;
       number = omega (arith, r.number);
       earlier = go;
@@ -145,13 +145,13 @@ module _ (file : Bytes) (f : ActionSet → List Step → Spot) (Off : ActionSet 
     where
       same : u.leaf ≡ r.leaf → u.offset < r.offset → ⊥
       same z k =
-          ((finds r.leaf r.is_leaf).first r.offset r.found).2 u.offset k
+          ((finds r.leaf r.is-leaf).first r.offset r.found).2 u.offset k
           (subst (λ (i : ℕ). Off (node_in (nodes_with_steps file) i).set (node_steps_in (nodes_with_steps file) i).steps u.offset) z u.off)
 
       go : (b : Bool) → ltb u.leaf r.leaf ≡ b → (c : Bool) → ltb r.leaf u.leaf ≡ c → ⊥
-      go true e c d = (finds u.leaf u.is_leaf).none (r.earlier u.leaf (ltb-true u.leaf r.leaf e) u.is_leaf) u.offset u.inside u.off
+      go true e c d = (finds u.leaf u.is-leaf).none (r.earlier u.leaf (ltb-true u.leaf r.leaf e) u.is-leaf) u.offset u.inside u.off
       go false e true d =
-          let i = ((finds r.leaf r.is_leaf).first r.offset r.found).0 in
+          let i = ((finds r.leaf r.is-leaf).first r.offset r.found).0 in
           omega (arith, before-later (nodes_with_steps file) r.leaf u.leaf (ltb-true r.leaf u.leaf d), own r.leaf, r.number, u.number, first-step u.leaf, i)
       go false e false d =
           let a : r.leaf ≤ u.leaf = ltb-false u.leaf r.leaf e in
@@ -162,9 +162,9 @@ module _ (file : Bytes) (f : ActionSet → List Step → Spot) (Off : ActionSet 
   pub lowest_step : (s : ℕ) → first_in_leaves f 0 (nodes_with_steps file) ≡ on_record s → LowestOf (StepOff file Off) s
   lowest_step s h =
       let r = first_leaf f 0 (nodes_with_steps file) s h in
-      let i = (finds r.leaf r.is_leaf).first r.offset r.found in
+      let i = (finds r.leaf r.is-leaf).first r.offset r.found in
       record {
-        offends = record { leaf = r.leaf; offset = r.offset; is-leaf = r.is_leaf; inside = i.0; number = omega (arith, r.number, first-step r.leaf); off = i.1 };
+        offends = record { leaf = r.leaf; offset = r.offset; is-leaf = r.is-leaf; inside = i.0; number = omega (arith, r.number, first-step r.leaf); off = i.1 };
         below = in_order s r;
       }
 

@@ -311,6 +311,14 @@ kept-load (node w j i l r) (pair_state s false a b) bs below size (pair_held h g
     let f : load l bs ≡ a = kept-load l a bs (below_left most_nodes w j i l r below) size h k.1 in
     let g : load r bs ≡ b = kept-load r b bs (below_right most_nodes w j i l r below) size g k.2 in
     cc
+kept-load (leaf i r c₀ code) (leaf_state s true o c) bs below size x12 k = elim x12 [ ]
+kept-load (leaf i r c₀ code) (pair_state s asked a b) bs below size x9 k = elim x9 [ ]
+kept-load (trivial i) (leaf_state s true o c) bs below size x7 k = elim x7 [ ]
+kept-load (trivial i) (pair_state s asked a b) bs below size x7 k = elim x7 [ ]
+kept-load (unsatisfiable i) (leaf_state s true o c) bs below size x8 k = elim x8 [ ]
+kept-load (unsatisfiable i) (pair_state s asked a b) bs below size x8 k = elim x8 [ ]
+kept-load (node w j i l r) (leaf_state s asked o c) bs below size x8 k = elim x8 [ ]
+kept-load (node w j i l r) (pair_state s true a b) bs below size x10 k = elim x10 [ ]
 
 pub load_store : (t : Tree) → Distinct t → Below most_nodes t → (s : State) → Stored t s → (bs : Bytes) → length bs ≡ cells_size → load t (store t s bs) ≡ s
 load_store t apart below s h bs size = kept-load t s (store t s bs) below (store_length t below s bs size) h (store_kept t apart below s bs size)

@@ -411,6 +411,8 @@ module _ (bs : Bytes) (size : length bs ≡ cells_size) where
       let fl : T (fits_under true l bs) = kept-gone-fits l (below_left most_nodes w j i l r below) (subst (λ (s : State). Kept l s bs) p k.1) in
       let fr : T (fits_under true r bs) = kept-gone-fits r (below_right most_nodes w j i l r below) (subst (λ (s : State). Kept r s bs) q k.2) in
       pair_fits false w j i l r x a b (below-here most_nodes w j i l r below) k.0 h.0 h.1 (rw h.2 tt) (rw h.2 fl) (rw h.2 fr)
+  kept-fits {t = node w j i l r} {s = leaf_state _ asked _ _} below z x15 k = elim x15 [ ]
+  kept-fits {t = node w j i l r} {s = pair_state x true a b} below z x18 k = elim x18 [ ]
 
 -- every cell that is stored has its two zeros
 store-zeros : (t : Tree) → Below most_nodes t → (s : State) (bs : Bytes) → length bs ≡ cells_size → ((i : ℕ) → i < most_nodes → zeros_at bs i ≡ 0)

@@ -106,6 +106,7 @@ module _ (file : Bytes) where
 
   lowest-tells : (f : Fault) (rs : List Rule) → Tells rs → Lowest file f rs → Carries f
   unfolding Tells
+  lowest-tells f [] t x = elim x [ ]
   lowest-tells f (r ∷ rs) t (here b e) = subst Carries e (t.0 b)
   lowest-tells f (r ∷ rs) t (after b l) = lowest-tells f rs t.1 l
 
@@ -183,8 +184,16 @@ module _ (file : Bytes) where
     applies : breaks_in rs index ≡ true
     before : (i : ℕ) → k + i < f.number → breaks_in rs i ≡ false
 
+  -- none below the first of the list is broken where none below it in the rest is
+  before-next : (k n : ℕ) (r : Rule) (rs : List Rule) → r.broken file ≡ false → ((i : ℕ) → suc k + i < n → breaks_in rs i ≡ false)
+      → (i : ℕ) → k + i < n → breaks_in (r ∷ rs) i ≡ false
+  unfolding breaks_in
+  before-next k n r rs e u zero h = e
+  before-next k n r rs e u (suc i) h = u i (omega arith)
+
   lowest-in : (k : ℕ) (f : Fault) (rs : List Rule) → T (counted k rs) → Lowest file f rs → FirstIn k f rs
   unfolding counted breaks_in spot_in
+  lowest-in k f [] c x = elim x [ ]
   lowest-in k f (r ∷ rs) c (here e s) =
       let same : r.number ≡ k = eqb→eq r.number k (and_left (eqb r.number k) (counted (suc k) rs) c) in
       let told : r.number ≡ f.number = ap (λ (x : Fault). x.number) s in
@@ -196,8 +205,14 @@ module _ (file : Bytes) where
         is = omega (arith, u.is);
         there = u.there;
         applies = u.applies;
-        before = λ i. elim i [ zero ↦ (λ h. e) | suc j ↦ (λ h. u.before j (omega arith)) ];
+        before = before-next k f.number r rs e u.before;
       }
+
+  -- rule 0 is none, and from rule 1 on they are those of the list
+  lower-first : (n : ℕ) → ((i : ℕ) → 1 + i < n → breaks_in rules i ≡ false) → (k : ℕ) → k < n → breaks file k ≡ false
+  unfolding breaks
+  lower-first n u zero h = refl
+  lower-first n u (suc i) h = breaks-in i ∙ u i (omega arith)
 
   -- the list is numbered from 1 on, so the first broken rule is the one with the lowest number
   pub refused-number : (f : Fault) → check file ≡ refused f → LowestBroken file f
@@ -207,7 +222,7 @@ module _ (file : Bytes) where
       let is : suc u.index ≡ f.number = omega (arith, u.is) in
       record {
         applies = subst (λ (k : ℕ). breaks file k ≡ true) is (breaks-in u.index ∙ u.applies);
-        lower-kept = λ k. elim k [ zero ↦ (λ h. unfold breaks in refl) | suc i ↦ (λ h. breaks-in i ∙ u.before i (omega arith)) ];
+        lower-kept = lower-first f.number u.before;
         there = subst (λ (k : ℕ). f.spot ≡ spot_by file k) is (u.there ∙ sym (spot-in u.index));
       }
 

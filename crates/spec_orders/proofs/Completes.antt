@@ -29,8 +29,8 @@ module _ {t : Tree} {p : Process} (free : OrderFree t p) where
 
   -- No order has more than `most` moves, so that what is left of it falls with each.
   to_end : (fuel : ℕ) {xs : List Item} {n : ℕ} {p' : Process} → Order p xs n p' → free.most ≤ n + fuel → Ends p'
-  to_end zero o h = either (free.free o) (free.goes_on o) (λ ys q' m. absurd (omega (arith, h, free.ends (move-more o m).order)))
-  to_end (suc fuel) o h = either (free.free o) (free.goes_on o) (λ ys q' m. to_end fuel (move-more o m).order (omega (arith, h)))
+  to_end zero o h = either (free.free o) (free.goes-on o) (λ ys q' m. absurd (omega (arith, h, free.ends (move-more o m).order)))
+  to_end (suc fuel) o h = either (free.free o) (free.goes-on o) (λ ys q' m. to_end fuel (move-more o m).order (omega (arith, h)))
 
   pub completes : {xs : List Item} {n : ℕ} {p' : Process} → Order p xs n p' → Ends p'
   completes o = to_end free.most o (omega arith)

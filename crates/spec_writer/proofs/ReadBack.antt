@@ -3,7 +3,7 @@ use Prim.Native.Nat.{ℕ, zero, suc, ◌+◌, ◌*◌, ◌≤◌, ◌<◌}
 use native.Mathlib.Omega.{arith}
 use mathlib.Core.Path.{◌≡◌, refl, sym, ap, ap₂, ◌∙◌, subst}
 use mathlib.Core.Bool.{Bool, true, false, ◌&&◌}
-use mathlib.Core.List.{List, ◌∷◌}
+use mathlib.Core.List.{List, [], ◌∷◌}
 use lib.Dec.{T, leb, ltb, leb→le}
 use lib.ListN.{length, take, drop}
 use lib.Seq.{take_at, drop_at, take_all, drop-drop}
@@ -134,6 +134,7 @@ module _ {made : Bytes} {k : Fault} where
 
   among : (rs : List Rule) → T (every (λ r. leb 4 r.number && leb r.number 10) rs) → Lowest made k rs → (4 ≤ k.number) × (k.number ≤ 10)
   unfolding every
+  among [] t x = elim x [ ]
   among (r ∷ rs) t (here f s) =
       let u = and_left (leb 4 r.number && leb r.number 10) (every (λ r. leb 4 r.number && leb r.number 10) rs) t in
       let a = leb→le 4 r.number (and_left (leb 4 r.number) (leb r.number 10) u) in

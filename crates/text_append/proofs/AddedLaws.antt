@@ -4,13 +4,13 @@ use native.Mathlib.Nat.{pow-suc}
 use native.Mathlib.Omega.{arith}
 use mathlib.Core.Path.{◌≡◌, refl, sym, ap, ap₂, ◌∙◌, subst}
 use mathlib.Core.Bool.{Bool, true, false, ◌&&◌, not}
-use mathlib.Core.List.{List, [], ◌∷◌, ◌++◌, append_assoc, append-nil}
+use mathlib.Core.List.{List, [], ◌∷◌, ◌++◌, append-nil}
 use mathlib.Core.Logic.{⊎_elim}
 use lib.Dec.{ltb}
 use lib.ListN.{length, take, drop, length-append, length-take, length-drop, take-append-drop}
-use lib.Seq.{take_at, take_all, take-nil, take-length, take-append-le, take-append-add, length-take-le, drop-append-le, drop-drop}
+use lib.Seq.{take_at, take_all, take-nil, take-append-le, take-append-add, length-take-le, drop-drop}
 use borrow.Author.Tests.{lt-ltb, le-ltb}
-use borrow.Rule.Slice.PartMut.{put_mid, mid_of}
+use borrow.Rule.Slice.PartMut.{put_mid}
 use Rattle.actions.specs.Sets.{ActionSet, has}
 use Rattle.spec_policy.specs.Bytes.{Bytes, put}
 use Rattle.spec_policy.proofs.ByteLaws.{put-length, put-append}
@@ -134,29 +134,18 @@ tells {a} {b} {x} {r} p h =
 
 -- ---- a piece copied to its place
 
-pub copied : (out t after : Bytes) (at : ℕ) → at + length t ≤ length out → after ≡ take (length t) t ++ drop (length t) (mid_of at (length out - at) out)
-    → put_mid at (length out - at) out after ≡ put out at t
+copied : (out t : Bytes) (at k : ℕ) → k ≡ length t → put_mid at k out t ≡ put out at t
 unfolding put
-copied out t after at h e =
-    let n : ℕ = length t in
-    let k : ℕ = length out - at in
-    let m : Bytes = take k (drop at out) in
-    let l : n ≤ length m = simp (length-take, length-drop) (omega arith) in
-    rw (e, take-length t) (ap (λ (z : Bytes). take at out ++ z) (append_assoc t (drop n m) (drop k (drop at out))
-    ∙ ap (λ (z : Bytes). t ++ z) (sym (drop-append-le n m (drop k (drop at out)) l) ∙ ap (drop n) (take-append-drop k (drop at out)) ∙ drop-drop n at out)))
+copied out t at k e = ap (λ (z : Bytes). take at out ++ (t ++ z)) (drop-drop k at out ∙ ap (λ (n : ℕ). drop (at + n) out) e)
 
 -- as much of it as there is room for
 module _ (out t : Bytes) (at part : ℕ) (h : at < length out) (p : part ≡ min (length t) (length out - at)) where
   part-is : length (take part t) ≡ part
   part-is = length-take-le part t (omega arith)
 
-  pub part-fits : length (take part t) ≤ length (mid_of at (length out - at) out)
-  part-fits = simp (length-take, length-drop) (omega arith)
-
-  pub copied-part : (after : Bytes) → after ≡ take (length (take part t)) (take part t) ++ drop (length (take part t)) (mid_of at (length out - at) out)
-      → put_mid at (length out - at) out after ≡ put out at (take (length out - at) t)
-  copied-part after e =
-      copied out (take part t) after at (omega (arith, part-is)) e
+  pub copied-part : put_mid at (at + part - at) out (take part t) ≡ put out at (take (length out - at) t)
+  copied-part =
+      copied out (take part t) at (at + part - at) (omega (arith, part-is))
       ∙ ap (put out at) (⊎_elim (λ l. take_all part t (omega arith) ∙ sym (take_all (length out - at) t (omega arith)))
       (λ l. let z : part ≡ length out - at = omega arith in ap (λ (k : ℕ). take k t) z) (in-or-out (length out - at) (length t)))
 

@@ -3,8 +3,8 @@ use Prim.Native.Nat.{ℕ, ◌+◌, ◌-◌, ◌≤◌, ◌<◌}
 use mathlib.Core.Path.{◌≡◌, refl, sym, ap, ap₂, subst, ◌∙◌}
 use mathlib.Core.List.{[], ◌∷◌, ◌++◌}
 use native.Mathlib.Omega.{arith}
-use lib.ListN.{length, get_or, take, drop}
-use lib.Seq.{take_at, take-length, take-append_seam, length-take-le}
+use lib.ListN.{length, get_or, take}
+use lib.Seq.{take_at, length-take-le}
 use borrow.Author.Tests.{eq-eqb, ne_eqb}
 use borrow.Rule.Slice.PartMut.{mid_len}
 use Rattle.spec_policy.specs.Bytes.{Bytes, number, spell}
@@ -122,20 +122,15 @@ request-close n a d e = rw (request, ne_eqb n 1 d, ne_eqb n 2 e) refl
 
 -- ---- buffers
 
--- what was copied to the start of a buffer
-pub loaded : (batch buffer after : Bytes) (from to r : ℕ) → to ≤ length batch → r ≡ length (part from to batch)
-    → after ≡ take (length (part from to batch)) (part from to batch) ++ drop (length (part from to batch)) buffer → (r ≡ to - from) × (take r after ≡ part from to batch)
-unfolding part
-loaded batch buffer after from to r h e f = (
-  e ∙ mid_len from to batch h,
-  ap₂ take e f
-      ∙ ap (λ (l : Bytes). take (length (part from to batch)) (l ++ drop (length (part from to batch)) buffer)) (take-length (part from to batch))
-      ∙ take-append_seam (part from to batch) (drop (length (part from to batch)) buffer),
-)
-
 -- what a call leaves at the start of a buffer, where the rest is as it was
 pub front : (now rest : Bytes) (n k : ℕ) → n ≡ k → length now ≡ k → take n (now ++ rest) ≡ now
 front now rest n k e f = take_at now rest n (f ∙ sym e)
+
+-- what was copied to the start of a buffer
+pub loaded : (batch now rest : Bytes) (from to : ℕ) → to ≤ length batch → now ≡ part from to batch
+    → (to - from ≡ to - from) × (take (to - from) (now ++ rest) ≡ part from to batch)
+unfolding part
+loaded batch now rest from to h e = (refl, front now rest (to - from) (to - from) refl (ap length e ∙ mid_len from to batch h) ∙ e)
 
 -- a call on its own parts
 pub made : (bs : Bytes) (c : Parts) (s e s' e' x y reply : Bytes) (m n : ℕ) (a : Answer) → Placed bs c

@@ -1,10 +1,10 @@
 -- Laws of a trace run's bytes.
 use Prim.Native.Nat.{ℕ, ◌+◌, ◌-◌, ◌≤◌}
 use native.Mathlib.Omega.{arith}
-use mathlib.Core.Path.{◌≡◌, refl, sym, ap, ap₂, ◌∙◌, subst}
+use mathlib.Core.Path.{◌≡◌, refl, sym, ap, ◌∙◌, subst}
 use mathlib.Core.List.{List, [], ◌∷◌, ◌++◌}
 use lib.ListN.{length, take, drop, length-drop}
-use lib.Seq.{take-length, take_at, length-take-le}
+use lib.Seq.{take-length, length-take-le}
 use borrow.Author.Tests.{eq-eqb, ne_eqb}
 use Rattle.spec_policy.specs.Bytes.{Bytes, spell}
 use Rattle.spec_policy.specs.Spots as spots
@@ -20,7 +20,7 @@ use Rattle.trace_run.specs.declared.Report.{Report}
 use Rattle.trace_run.specs.declared.Report.TheVariants.{Unopened, Followed}
 use Rattle.run_input.specs.Ends.{policy_part}
 use Rattle.trials.specs.declared.calls.Parts.{Parts}
-use Rattle.trials.specs.Calls.{Placed, part, policy_in, state_in, events_in, refusal_bytes, no_refusal}
+use Rattle.trials.specs.Calls.{Placed, part, policy_in, state_in, refusal_bytes, no_refusal}
 use Rattle.trials.specs.Runs.{trace_of, trace_called, stop_fault, report_bytes, Traced, tally_start}
 use Rattle.trials.proofs.CallLaws.{policy-part, state-part, events-part, front}
 

@@ -42,9 +42,9 @@ module _ {b : Action} {fs : List Feeder} {m₀ : Mem} (cl : Clear fs) where
   unwind-stop {m' = m'} {ys = ys} {q = q} (lets_on {f = f} {gs = gs} {xs = xs} {ys = zs} {ns = ns} p a t e) h =
       subst (λ (l : List Item). Rose fs b m₀ m' l (stopped q)) (sym (append_assoc xs zs ys)) (unwind-stop p (rose-stop-out f gs (beside-on p) a t e h))
 
-  pub skip : {hs gs : List Feeder} {m : Mem} {xs : List Item} {ns : List ℕ} → Rising b fs m₀ hs m xs ns → Skips b m hs gs → Rising b fs m₀ gs m xs ns
-  skip p here = p
-  skip p (past a s) = skip (passes p a) s
+  pub skip : {m : Mem} {hs gs : List Feeder} {xs : List Item} {ns : List ℕ} → Rising b fs m₀ hs m xs ns → Skips b m hs gs → Rising b fs m₀ gs m xs ns
+  skip {m = m} p here = p
+  skip {m = m} p (past a s) = skip {m = m} (passes p a) s
 
   -- past the last of them it is let out at the root
   pub lets-out : {gs : List Feeder} {m : Mem} {xs : List Item} {ns : List ℕ} → Rising b fs m₀ gs m xs ns → Skips b m gs []

@@ -66,15 +66,15 @@ module _ (w : Way) (j : Join) (i : ℕ) (a b : Tree) (m m' : Mem) (stops : is_ru
   noded-same : (n : ℕ) {x y x' y' : State} → m' n ≡ m n → x' ≡ x → y' ≡ y → pair_with (m' n).status (m' n).asked x' y' ≡ pair_with (m n).status (m n).asked x y
   noded-same n {x} {y} e p q = ap₂ (pair_with (m' n).status (m' n).asked) p q ∙ ap (λ (c : Cell). pair_with c.status c.asked x y) e
 
-  held-under : {t : Tree} → Distinct t → Has t (node w j i a b) → held t m' ≡ held t m
+  held-under : {t : Tree} → Has t (node w j i a b) → Distinct t → held t m' ≡ held t m
   unfolding Distinct held
-  held-under ap here = held-here ap.2
-  held-under ap (in-left {i = n} {l} {r} h) =
-      noded-same n (kept-outside h n ap.2.not_left) (held-under ap.0 h)
+  held-under here ap = held-here ap.2
+  held-under (in-left {i = n} {l} {r} h) ap =
+      noded-same n (kept-outside h n ap.2.not_left) (held-under h ap.0)
       (held_same r m m' (λ k e. kept-outside h k (not-left-of-right ap.2 k e)))
-  held-under ap (in-right {i = n} {l} {r} h) =
+  held-under (in-right {i = n} {l} {r} h) ap =
       noded-same n (kept-outside h n ap.2.not_right) (held_same l m m' (λ k e. kept-outside h k (not-right-of-left ap.2 k e)))
-      (held-under ap.1 h)
+      (held-under h ap.1)
 
 -- ---- the tree of a passed policy, node by node
 
@@ -199,7 +199,7 @@ module _ {file : Bytes} (ok : Passed file) where
       low = λ k l. else_same k (λ z. omega (arith, later.left-later)) (λ z. omega (arith, later.right-later));
       some = some-drops;
       same = held-under w j i (left_tree i) (right_tree i) (memory_of ws) (memory_of us) stops (λ k p q. else_same k (not-side a k p) (not-side b k q))
-          (lawful-apart (tree file) (lawful file ok)) (subst (Has (tree file)) tree_is (has-node i h));
+          (subst (Has (tree file)) tree_is (has-node i h)) (lawful-apart (tree file) (lawful file ok));
       sides = λ v g q z. (left-drops, right-drops);
     }
 

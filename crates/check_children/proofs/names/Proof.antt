@@ -4,7 +4,6 @@ use borrow.Author.Rules.{rules}
 use Prim.Native.Nat.{◌≤◌, ◌+◌}
 use mathlib.Core.Path.{sym}
 use lib.Dec.{eqb}
-use Rattle.spec_policy.specs.Lists.{one}
 use Rattle.spec_policy.specs.Records.{node_at}
 use Rattle.spec_policy.proofs.ListLaws.{one-most}
 use Rattle.spec_check.proofs.Numbers.{kids}
@@ -12,22 +11,22 @@ use Rattle.check_children.proofs.Counted.{kids-both, no-pair}
 use Rattle.check_children.proofs.names.Statement.{statement}
 use Rattle.check_children.proofs.names.Tie as tie
 
-at_most : (c : tie.After-one2) → c.before.one.result + c.one2.result ≤ 2
+at_most : (c : tie.After-one-in-Pair) → c.one.result + c.one-in-Pair.result ≤ 2
 at_most c =
-    omega (arith, c.before.one.ensures, c.one2.ensures, one-most (eqb c.before.before.before.node-left.result c.before.before.before.before.before.before.before.before.args.k), one-most (eqb c.before.before.node-right.result c.before.before.before.before.before.before.before.before.args.k))
+    omega (arith, c.one.ensures, c.one-in-Pair.ensures, one-most (eqb c.node_left-left.result c.args.k), one-most (eqb c.node_right-right.result c.args.k))
 
-returns : tie.Need-returns
+returns : tie.Need-returns-in-Pair
 unfolding kids
 returns c =
-    let k = kids-both 0 0 (node_at _ _) c.before.before.before.before.enum_told.given.1 c.before.before.before.before.before.before.node-kind.ensures c.before.before.before.node-left.ensures c.before.before.node-right.ensures c.before.before.before.before.before.before.before.before.args.k in
-    (omega (arith, c.before.one.ensures, c.one2.ensures, k), at_most c)
+    let k = kids-both 0 0 (node_at _ _) c.in-Pair.is c.node_kind-kind.ensures c.node_left-left.ensures c.node_right-right.ensures c.args.k in
+    (omega (arith, c.one.ensures, c.one-in-Pair.ensures, k), at_most c)
 
-returns-2 : tie.Need-returns-2
+returns-2 : tie.Need-returns-in_default
 unfolding kids
-returns-2 c = (sym ((no-pair 0 0 (node_at _ _) _ c.match.keys2 c.before.node-kind.ensures).1 c.before.before.before.args.k), omega arith)
+returns-2 c = (sym ((no-pair 0 0 (node_at _ _) _ c.in_default.in_default-own.keys2 c.node_kind-kind.ensures).1 c.args.k), omega arith)
 
-pub names-spec : {M : Type 1} → statement M
-names-spec =
+pub names_spec : {M : Type 1} → statement M
+names_spec =
     tie.close
     (tie.spec
     (λ c κs. search rules)

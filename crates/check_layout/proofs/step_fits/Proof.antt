@@ -11,76 +11,67 @@ use Rattle.check_layout.proofs.Fields.{step_record_of, read_step, no-step, no-op
 use Rattle.check_layout.proofs.step_fits.Statement.{statement}
 use Rattle.check_layout.proofs.step_fits.Tie as tie
 
-module _ (c : tie.After-word322) where
+module _ (c : tie.After-word32-no_low) where
   abbrev row : StepRecord
-  row = let s = c.before.before.before.before.args in step_record_at s.policy.now s.at
+  row = step_record_at c.args.policy.now c.args.at
 
-  of-kind : (k : ℕ) → c.before.before.byte.result ≡ k
+  of-kind : (k : ℕ) → c.byte-kind.result ≡ k
       → step_fits (step_record_of k row.action row.first row.second row.operand) ≡ step_fits row
   unfolding step_record_at
-  of-kind k e = ap step_fits (read_step _ _ _ _ _ _ _ (sym e ∙ c.before.before.byte.ensures) refl refl refl refl)
+  of-kind k e = ap step_fits (read_step _ _ _ _ _ _ _ (sym e ∙ c.byte-kind.ensures) refl refl refl refl)
 
-  no-operand : (eqb c.before.word32.result 0 && eqb c.word322.result 0) ≡ no_operand row
-  no-operand = no-operand-read _ _ _ _ c.before.word32.ensures.0 c.word322.ensures.0 c.before.before.before.before.requires
+  no-operand : (eqb c.word32-no_high.result 0 && eqb c.word32-no_low.result 0) ≡ no_operand row
+  no-operand = no-operand-read _ _ _ _ c.word32-no_high.ensures.0 c.word32-no_low.ensures.0 c.requires
 
-  no-high : eqb c.before.word32.result 0 ≡ leb row.operand 4_294_967_295
-  no-high = no-high-read _ _ _ _ c.before.word32.ensures.0 c.word322.ensures.0 c.word322.ensures.1 c.before.before.before.before.requires
+  no-high : eqb c.word32-no_high.result 0 ≡ leb row.operand 4_294_967_295
+  no-high = no-high-read _ _ _ _ c.word32-no_high.ensures.0 c.word32-no_low.ensures.0 c.word32-no_low.ensures.1 c.requires
 
-returns : tie.Need-returns
+returns : tie.Need-returns-in-1
 unfolding step_fits no_action no_first no_second no_operand is_action step_record_at
 returns c =
-    let w = c.before.before in
-    (λ i. c.no-action.ensures i && no-operand w i) ∙ of-kind w 1 c.before.match.keys1
+    (λ i. c.no_action.ensures i && no-operand c.before.before i) ∙ of-kind c.before.before 1 c.in-1.is
 
-returns-2 : tie.Need-returns-2
+returns-2 : tie.Need-returns-in-2
 unfolding step_fits no_action no_first no_second no_operand is_action step_record_at
 returns-2 c =
-    let w = c.before.before.before in
-    (λ i. (c.before.no-action2.ensures i && c.no_second.ensures i) && no-operand w i) ∙ of-kind w 2 c.before.before.match.keys2
+    (λ i. (c.no_action-in-2.ensures i && c.no_second.ensures i) && no-operand c.before.before.before i) ∙ of-kind c.before.before.before 2 c.in-2.is
 
-returns-3 : tie.Need-returns-3
+returns-3 : tie.Need-returns-in-3
 unfolding step_fits no_action no_first no_second no_operand is_action step_record_at
 returns-3 c =
-    let w = c.before.before.before in
-    (λ i. (c.before.no-action3.ensures i && c.no-second2.ensures i) && no-operand w i) ∙ of-kind w 3 c.before.before.match.keys3
+    (λ i. (c.no_action-in-3.ensures i && c.no_second-in-3.ensures i) && no-operand c.before.before.before i) ∙ of-kind c.before.before.before 3 c.in-3.is
 
-returns-4 : tie.Need-returns-4
+returns-4 : tie.Need-returns-in-4
 unfolding step_fits no_action no_first no_second no_operand is_action step_record_at
 returns-4 c =
-    let w = c.before.before.before in
-    (λ i. (leb (c.before.byte2.ensures i) 63 && c.no-second3.ensures i) && no-operand w i) ∙ of-kind w 4 c.before.before.match.keys4
+    (λ i. (leb (c.byte.ensures i) 63 && c.no_second-in-4.ensures i) && no-operand c.before.before.before i) ∙ of-kind c.before.before.before 4 c.in-4.is
 
-returns-5 : tie.Need-returns-5
+returns-5 : tie.Need-returns-in-5
 unfolding step_fits no_action no_first no_second no_operand is_action step_record_at
 returns-5 c =
-    let w = c.before.before in
-    c.no-action4.ensures ∙ of-kind w 5 c.before.match.keys5
+    c.no_action-in-5.ensures ∙ of-kind c.before.before 5 c.in-5.is
 
-returns-6 : tie.Need-returns-6
+returns-6 : tie.Need-returns-in-6
 unfolding step_fits no_action no_first no_second no_operand is_action step_record_at
 returns-6 c =
-    let w = c.before.before in
-    (λ i. c.no-action5.ensures i && no-high w i) ∙ of-kind w 6 c.before.match.keys6
+    (λ i. c.no_action-in-6.ensures i && no-high c.before.before i) ∙ of-kind c.before.before 6 c.in-6.is
 
-returns-7 : tie.Need-returns-7
+returns-7 : tie.Need-returns-in-7
 unfolding step_fits no_action no_first no_second no_operand is_action step_record_at
 returns-7 c =
-    let w = c.before.before.before.before in
-    (λ i. ((c.before.before.no-action6.ensures i && c.before.no-first.ensures i) && c.no-second4.ensures i) && no-operand w i) ∙ of-kind w 7 c.before.before.before.match.keys7
+    (λ i. ((c.no_action-in-7.ensures i && c.no_first.ensures i) && c.no_second-in-7.ensures i) && no-operand c.before.before.before.before i) ∙ of-kind c.before.before.before.before 7 c.in-7.is
 
-returns-8 : tie.Need-returns-8
+returns-8 : tie.Need-returns-in-8
 unfolding step_fits no_action no_first no_second no_operand is_action step_record_at
 returns-8 c =
-    let w = c.before.before.before.before in
-    (λ i. ((c.before.before.no-action7.ensures i && c.before.no-first2.ensures i) && c.no-second5.ensures i) && no-operand w i) ∙ of-kind w 8 c.before.before.before.match.keys8
+    (λ i. ((c.no_action-in-8.ensures i && c.no_first-in-8.ensures i) && c.no_second-in-8.ensures i) && no-operand c.before.before.before.before i) ∙ of-kind c.before.before.before.before 8 c.in-8.is
 
-returns-9 : tie.Need-returns-9
+returns-9 : tie.Need-returns-in_default
 returns-9 c =
-    let r = c.match.rest in
-    sym (no-step _ _ _ _ _ r.0.0.0.0.0.0.0.1 r.0.0.0.0.0.0.1 r.0.0.0.0.0.1 r.0.0.0.0.1 r.0.0.0.1 r.0.0.1 r.0.1 r.1) ∙ of-kind c.before _ refl
+    sym (no-step _ _ _ _ _ c.in_default.in_default-own.rest.0.0.0.0.0.0.0.1 c.in_default.in_default-own.rest.0.0.0.0.0.0.1 c.in_default.in_default-own.rest.0.0.0.0.0.1 c.in_default.in_default-own.rest.0.0.0.0.1 c.in_default.in_default-own.rest.0.0.0.1 c.in_default.in_default-own.rest.0.0.1 c.in_default.in_default-own.rest.0.1 c.in_default.in_default-own.rest.1) ∙ of-kind c.before _ refl
 
-pub step-fits-spec : {M : Type 1} → statement M
-step-fits-spec =
+pub step_fits_spec : {M : Type 1} → statement M
+step_fits_spec =
     tie.close
     (tie.spec
     (λ c κs. search rules)

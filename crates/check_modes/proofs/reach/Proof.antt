@@ -14,28 +14,28 @@ use Rattle.check_modes.proofs.reach.Tie as tie
 inside : (s : tie.Start) {k : ℕ} → s.args.mode ≡ k → k < 3 → s.args.o < 64
 inside s e h = room-one s.args.mode s.args.o (omega arith) s.requires
 
-returns : tie.Need-returns
+returns : tie.Need-returns-in-0
 unfolding joined union mode_number
-returns c = joined-adds _ idle _ _ _ c.before.before.match.keys1 c.before.only-bit.ensures
+returns c = joined-adds _ idle _ _ _ c.in-0.is c.only_bit.ensures
 
-returns-2 : tie.Need-returns-2
+returns-2 : tie.Need-returns-in-1
 unfolding joined union mode_number
-returns-2 c = joined-adds _ pending _ _ _ c.before.before.match.keys2 c.before.only-bit2.ensures
+returns-2 c = joined-adds _ pending _ _ _ c.in-1.is c.only_bit-in-1.ensures
 
-returns-3 : tie.Need-returns-3
+returns-3 : tie.Need-returns-in-2
 unfolding joined union mode_number
-returns-3 c = joined-adds _ closing _ _ _ c.before.before.match.keys3 c.before.only-bit3.ensures
+returns-3 c = joined-adds _ closing _ _ _ c.in-2.is c.only_bit-in-2.ensures
 
-returns-4 : tie.Need-returns-4
+returns-4 : tie.Need-returns-in_default
 returns-4 c = adds_none _ _ _ (omega arith)
 
-pub reach-spec : {M : Type 1} → statement M
-reach-spec =
+pub reach_spec : {M : Type 1} → statement M
+reach_spec =
     tie.close
     (tie.spec
-    (λ c κs. inside c.before c.match.keys1 (lit< tt))
-    (λ c κs. inside c.before c.match.keys2 (lit< tt))
-    (λ c κs. inside c.before c.match.keys3 (lit< tt))
+    (λ c κs. inside c.before c.in-0.is (lit< tt))
+    (λ c κs. inside c.before c.in-1.is (lit< tt))
+    (λ c κs. inside c.before c.in-2.is (lit< tt))
     returns
     returns-2
     returns-3

@@ -15,43 +15,35 @@ use Rattle.text_lines.proofs.record_line.Statement.{statement}
 use Rattle.text_lines.proofs.record_line.Tie as tie
 
 byte-requires : tie.Need-byte-requires
-byte-requires c κs = omega (arith, c.before.before.requires, size-least (sort_of c.before.before.args.sort))
+byte-requires c κs = omega (arith, c.requires, size-least (sort_of c.args.sort))
 
 -- the form is that of the record's first byte
-found : (c : tie.After-form-of) → of_kind (sort_of c.before.before.before.before.args.sort) (get_or c.before.before.before.before.args.bytes.now 0 0) ≡ forms_from c.form_of.result
+found : (c : tie.After-form_of-form) → of_kind (sort_of c.args.sort) (get_or c.args.bytes.now 0 0) ≡ forms_from c.form_of-form.result
 found c =
-    let a = c.before.before.before.before.args in
-    ap (of_kind (sort_of a.sort))
-    (sym (c.before.byte.ensures ∙ number-byte a.bytes.now 0 (omega (arith, c.before.before.before.before.requires, size-least (sort_of a.sort)))))
-    ∙ c.form_of.ensures
+    ap (of_kind (sort_of c.args.sort))
+    (sym (c.byte.ensures ∙ number-byte c.args.bytes.now 0 (omega (arith, c.requires, size-least (sort_of c.args.sort)))))
+    ∙ c.form_of-form.ensures
 
-returns : tie.Need-returns
+returns : tie.Need-returns-then-form-ge-FORM_COUNT
 returns c =
-    let a = c.before.before.before.before.before.before.before.before.before.args in
-    named c.before.before.bytes-line.ensures (record-unknown (sort_of a.sort) a.i a.bytes.now (found c.before.before.before.before.before ∙ form-none c.before.before.before.before.before.form_of.result c.before.before.before.before.if1.true))
+    named c.bytes_line.ensures (record-unknown (sort_of c.args.sort) c.args.i c.args.bytes.now (found c.before.before.before.before.before ∙ form-none c.form_of-form.result c.if-form-ge-FORM_COUNT.true))
 
 says-requires : tie.Need-says-requires
 says-requires c κs =
-    let a = c.before.before.before.before.before.args in
-    let f = c.before.form_of.result in
-    (c.before.before.before.before.before.requires, c.if1.false, kind-found (sort_of a.sort) (get_or a.bytes.now 0 0) (form_at f) (found c.before ∙ form-some f c.if1.false))
+    (c.requires, c.if-form-ge-FORM_COUNT.false, kind-found (sort_of c.args.sort) (get_or c.args.bytes.now 0 0) (form_at c.form_of-form.result) (found c.before ∙ form-some c.form_of-form.result c.if-form-ge-FORM_COUNT.false))
 
-returns-2 : tie.Need-returns-2
+returns-2 : tie.Need-returns-then-says
 returns-2 c =
-    let a = c.before.before.before.before.before.before.before.before.before.before.before.args in
-    let f = c.before.before.before.before.before.before.before.form_of.result in
-    named c.before.before.line.ensures
-    (record-told (sort_of a.sort) a.i a.bytes.now (form_at f) (found c.before.before.before.before.before.before.before ∙ form-some f c.before.before.before.before.before.before.if1.false) (sym c.before.before.before.before.before.says.ensures ∙ c.before.before.before.before.if2.true))
+    named c.line.ensures
+    (record-told (sort_of c.args.sort) c.args.i c.args.bytes.now (form_at c.form_of-form.result) (found c.before.before.before.before.before.before.before ∙ form-some c.form_of-form.result c.if-form-ge-FORM_COUNT.false) (sym c.says.ensures ∙ c.if-says.true))
 
-returns-3 : tie.Need-returns-3
+returns-3 : tie.Need-returns
 returns-3 c =
-    let a = c.before.before.before.before.before.before.before.before.before.before.before.args in
-    let f = c.before.before.before.before.before.before.before.form_of.result in
-    named c.before.before.bytes-line2.ensures
-    (record-untold (sort_of a.sort) a.i a.bytes.now (form_at f) (found c.before.before.before.before.before.before.before ∙ form-some f c.before.before.before.before.before.before.if1.false) (sym c.before.before.before.before.before.says.ensures ∙ c.before.before.before.before.if2.false))
+    named c.bytes_line-2.ensures
+    (record-untold (sort_of c.args.sort) c.args.i c.args.bytes.now (form_at c.form_of-form.result) (found c.before.before.before.before.before.before.before ∙ form-some c.form_of-form.result c.if-form-ge-FORM_COUNT.false) (sym c.says.ensures ∙ c.if-says.false))
 
-pub record-line-spec : {M : Type 1} → statement M
-record-line-spec =
+pub record_line_spec : {M : Type 1} → statement M
+record_line_spec =
     tie.close
     (tie.spec
     byte-requires

@@ -1,4 +1,0 @@
-pub mod View
-mod Asked
-mod Getter
-mod StepGetter

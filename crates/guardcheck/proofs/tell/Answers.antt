@@ -1,0 +1,27 @@
+-- `tell` meets its contract.
+use mathlib.Core.Path.{sym, ap, ◌∙◌}
+use Rattle.spec_check.proofs.Passed.{passed}
+use Rattle.check_policy.specs.Answers as checked
+use Rattle.text_append.specs.Refusal.{refusal}
+use Rattle.guardcheck.specs.Shown.{answered}
+use Rattle.guardcheck.proofs.ShownLaws.{shown-long, shown-short, told, spread-named}
+use Rattle.guardcheck.proofs.tell.Goals as goal
+
+pub returns-then-input-gt-MOST_FILE : goal.returns-then-input-gt-MOST_FILE
+returns-then-input-gt-MOST_FILE c = told c.args.input.now c.requires c.refuse.ensures (ap refusal c.bare_fault.ensures ∙ shown-long c.args.input.now c.if-input-gt-MOST_FILE.true)
+
+pub spread_of-spread-requires : goal.spread_of-spread-requires
+unfolding checked.answered
+spread_of-spread-requires c = passed c.args.input.now _ _ (sym c.check.ensures ∙ ap checked.answered c.in-Passed.is)
+
+pub returns-in-Passed : goal.returns-in-Passed
+unfolding checked.answered answered
+returns-in-Passed c =
+    told c.args.input.now c.requires (spread-named _ _ c.tell_passed.ensures c.spread_of-spread.ensures)
+    (shown-short c.args.input.now _ c.if-input-gt-MOST_FILE.false (sym (ap checked.answered c.in-Passed.is) ∙ c.check.ensures))
+
+pub returns-in-Refused : goal.returns-in-Refused
+unfolding checked.answered answered
+returns-in-Refused c =
+    told c.args.input.now c.requires c.refuse-in-Refused.ensures
+    (shown-short c.args.input.now _ c.if-input-gt-MOST_FILE.false (sym (ap checked.answered c.in-Refused.is) ∙ c.check.ensures))

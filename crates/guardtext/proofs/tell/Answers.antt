@@ -1,0 +1,31 @@
+-- `tell` meets its contract.
+use mathlib.Core.Path.{sym, ap, ◌∙◌}
+use Rattle.check_policy.specs.Answers as checked
+use Rattle.text_append.specs.Refusal.{refusal}
+use Rattle.guardtext.specs.Shown.{answered}
+use Rattle.text_print.proofs.FileLaws.{pass_fits}
+use Rattle.guardtext.proofs.ShownLaws.{shown-long, shown-short, told}
+use Rattle.guardtext.proofs.tell.Goals as goal
+
+pub returns-then-input-gt-MOST_FILE : goal.returns-then-input-gt-MOST_FILE
+returns-then-input-gt-MOST_FILE c = told c.args.input.now (λ i. (c.shared_slice_known-1.given i).fits) c.requires c.refuse.ensures (ap refusal c.bare_fault.ensures ∙ shown-long c.args.input.now c.if-input-gt-MOST_FILE.true)
+
+pub print_records-requires : goal.print_records-requires
+unfolding checked.answered
+print_records-requires c = pass_fits (sym c.check.ensures ∙ ap checked.answered c.in-Passed.is)
+
+pub tell_refused-requires : goal.tell_refused-requires
+unfolding checked.answered
+tell_refused-requires c = sym c.check.ensures ∙ ap checked.answered c.in-Refused.is
+
+pub returns-in-Passed : goal.returns-in-Passed
+unfolding checked.answered answered
+returns-in-Passed c =
+    told c.args.input.now (λ i. (c.shared_slice_known-1.given i).fits) c.requires c.print_records.ensures
+    (shown-short c.args.input.now _ c.if-input-gt-MOST_FILE.false (sym (ap checked.answered c.in-Passed.is) ∙ c.check.ensures))
+
+pub returns-in-Refused : goal.returns-in-Refused
+unfolding checked.answered answered
+returns-in-Refused c =
+    told c.args.input.now (λ i. (c.shared_slice_known-1.given i).fits) c.requires c.tell_refused.ensures
+    (shown-short c.args.input.now _ c.if-input-gt-MOST_FILE.false (sym (ap checked.answered c.in-Refused.is) ∙ c.check.ensures))

@@ -1,0 +1,9 @@
+-- `append_event` meets its contract: three texts, one after the other.
+use Rattle.spec_text.specs.Words.{ascii}
+use Rattle.text_append.proofs.AddedLaws.{joined, named}
+use Rattle.run_report.specs.Lines.{line}
+use Rattle.run_report.proofs.append_event.Goals as goal
+
+pub returns : goal.returns
+unfolding ascii line
+returns c = joined (named c.append-named.ensures c.kind-what.ensures) (joined c.append_number-end.ensures c.append.ensures)
