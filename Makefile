@@ -1,4 +1,4 @@
-# `make help` says what there is. What is proved is shown as it goes; all that rt says is in target/*.log.
+# `make help` says what there is. What is proved is shown as it goes; all that rt says of a crate is in target/NAME.log.
 SAMPLE = brazing-furnace
 SEED = 1
 COUNT = 20000
@@ -22,15 +22,15 @@ help:
 	@echo 'make clean                  remove all that was built'
 
 sample:
-	@tools/prove target/sample.log check guardrun
+	@tools/prove guardrun
 	@tests/under-kit target/bin/guardrun <samples/$(SAMPLE).input
 
 programs:
-	@tools/prove target/programs.log check $(PROGRAMS)
+	@tools/prove $(PROGRAMS)
 
 # The archives are those that rt made, byte for byte; VERSION beside them says which they are.
 library:
-	@for name in $(LIBRARIES); do tools/prove target/library-$$name.log staticlib $$name || exit; done
+	@tools/prove $(LIBRARIES)
 	@mkdir -p dist/include dist/lib/pkgconfig
 	@cp $(LIBRARIES:%=include/%.h) dist/include
 	@cp $(LIBRARIES:%=target/staticlib/lib%.a) dist/lib
@@ -67,7 +67,7 @@ test: programs
 	@tests/library
 
 trials:
-	@tools/prove target/trials.log check trials
+	@tools/prove trials
 	@tests/trials $(COUNT) $(SEED)
 
 bench:
@@ -77,7 +77,7 @@ evidence:
 	@tools/evidence
 
 clean:
-	rm -rf target dist
+	rm -rf target dist crates/*/out
 	@$(MAKE) -s -C second clean
 
 .PHONY: help sample programs library install place test trials bench evidence clean

@@ -27,9 +27,13 @@ COSTLY = ["turn_node", "turn_leaf", "call_carry", "turn_rest", "guard", "fretmer
 LEAST = 4
 COLUMNS = "crate file line column old new kind verdict by seconds error".split()
 VERDICTS = ["refused", "by shape", "ill-formed", "survived", "undecided"]
-ERROR = re.compile(r"^(?:note: )?(\S*?crates/(\w+)/(\w+)/\S+?):(\d+):\d+: (error(?:\[[\w-]+\])?: .*)", re.M)
-NOTE = re.compile(r"^note: (\S*?crates/(\w+)/(\w+)/\S+?):(\d+):\d+: (.*)", re.M)
+# In the crate's own files a path begins at its folder, in those of a crate below at the root.
+PLACE = r"(?:\S*?crates/(\w+)/|\./)?((src|specs|proofs)/\S+?):(\d+):\d+: "
+ERROR = re.compile(rf"^(?:note: )?{PLACE}(error(?:\[[\w-]+\])?: .*)", re.M)
+NOTE = re.compile(rf"^note: {PLACE}(.*)", re.M)
 FOLLOWS = re.compile(r"was not admitted|cannot be unfolded because")
+# What the check could not show of a function is told at its code.
+OPEN = re.compile(r"it is not proved")
 # The proof names a part of the code that is no longer there: refused, but not for what the code does.
 SHAPE = re.compile(r"has no (?:field )?`|is not in scope")
 Verdict = namedtuple("Verdict", "verdict by error")
@@ -38,7 +42,7 @@ Verdict = namedtuple("Verdict", "verdict by error")
 def dependencies():
     """The crates in the order of crates.txt, each with those that it depends on, through others too."""
     lines = (line.split("#")[0].partition(":") for line in (ROOT / "crates.txt").read_text().splitlines())
-    named, reached = {name.strip(): deps.split() for name, mark, deps in lines if mark}, {}
+    named, reached = {name.split()[0]: deps.split() for name, mark, deps in lines if mark}, {}
     for name, deps in named.items():
         reached[name] = set(deps).union(*(reached.get(d, ()) for d in deps))
     return reached
@@ -98,8 +102,7 @@ def copied(here, there):
 def run(folder, limit, *words):
     """What rt says in a folder and its exit status, or None for the status after too long a time."""
     with tempfile.TemporaryFile("w+") as log:
-        setting = {**os.environ, "RT_JOBS": "1"}
-        child = subprocess.Popen(["rt", *words], cwd=folder, stdout=log, stderr=log, start_new_session=True, env=setting)
+        child = subprocess.Popen(["rt", *words], cwd=folder, stdout=log, stderr=log, start_new_session=True)
         try:
             status = child.wait(limit)
         except subprocess.TimeoutExpired:
@@ -111,51 +114,41 @@ def run(folder, limit, *words):
 
 
 class Bench:
-    """The copies of the repository: one that stays as it is, and one for each worker."""
+    """The copies of the repository: one that stays as it is, and one for each worker. What rt keeps of a crate is in its folder's out/."""
 
     def __init__(self, folder, jobs, limit):
-        self.limit, self.lock, self.warm = limit, threading.Lock(), set()
+        self.limit = limit
         self.kept = folder / "kept"
-        for part in ["crates", "crates.txt", "target/rlib", "target/stamp"]:
+        for part in ["crates", "crates.txt"]:
             copied(ROOT / part, self.kept / part)
-        status, said = run(self.kept, None, "check", *(c for c in dependencies() if c not in PROGRAMS))
+        status, said = run(self.kept, None, "all", "check")
         if status != 0:
             sys.exit(f"the crates are not proved:\n{said[-2000:]}")
         self.rooms = [folder / f"room{k}" for k in range(jobs)]
         for room in self.rooms:
             copied(self.kept, room)
 
-    def warmed(self, crate):
-        """The crate's incremental folder, once checked without a mutant."""
-        with self.lock:
-            if crate not in self.warm:
-                run(self.kept, None, "dev", crate)
-                self.warm.add(crate)
-        return self.kept / "target/inc" / crate
-
     def restore(self, room, mutant, crates):
         """rt goes by contents, not by times. So what a mutant can have changed is its file, and the crates' results."""
         file = Path("crates") / mutant.crate / mutant.file
         copied(self.kept / file, room / file)
         for c in crates:
-            for part in [f"rlib/{c}.rlib", f"stamp/{c}"]:
-                copied(self.kept / "target" / part, room / "target" / part)
-        copied(self.kept / "target/inc" / mutant.crate, room / "target/inc" / mutant.crate)
+            copied(self.kept / "crates" / c / "out", room / "crates" / c / "out")
 
     def judge(self, room, m):
         """The verdict on a mutant, in a room that is then as it was."""
-        copied(self.warmed(m.crate), room / "target/inc" / m.crate)
         file = room / "crates" / m.crate / m.file
         file.write_text(mutated(file.read_text(), m))
-        order = [m.crate, *dependents(m)]
+        tried = []
         try:
-            for words in [("dev", m.crate)] + [("check", c) for c in order]:
-                found = reading(*run(room, self.limit, *words), words[1])
+            for c in [m.crate, *dependents(m)]:
+                tried.append(c)
+                found = reading(*run(room / "crates" / c, self.limit, "check", "--jobs", "1"), c)
                 if found:
                     return found
             return Verdict("survived", "", "")
         finally:
-            self.restore(room, m, order)
+            self.restore(room, m, tried)
 
 
 def mentioning(crate, modules):
@@ -174,8 +167,8 @@ def dependents(m):
     more = {".".join(Path(m.file).with_suffix("").parts)}
     while more - inside:
         inside |= more
-        more = mentioning(m.crate, {f"Rattle·{m.crate}{form}.{n}" for n in inside for form in ("", "·specs", "·proofs")})
-    names = {f"Rattle·{m.crate}.{n}" for n in inside}
+        more = mentioning(m.crate, {f"Rattle.{m.crate}.{n}" for n in inside})
+    names = {f"Rattle.{m.crate}.{n}" for n in inside}
     seen = any(n.startswith("src") for n in inside) or any(mentioning(c, names) for c in above)
     return above if seen else []
 
@@ -189,9 +182,9 @@ def reading(status, said, crate):
     errors = ERROR.findall(said) or NOTE.findall(said)
     if not errors:
         return Verdict("undecided", crate, " ".join(said.split()[-30:]))
-    path, by, part, line, words = errors[0]
-    head = f"{part}/{path.split('/' + part + '/', 1)[1]}:{line}: {words}"[:200]
-    if part != "proofs":
+    by, path, part, line, words = errors[0]
+    by, head = by or crate, f"{path}:{line}: {words}"[:200]
+    if part != "proofs" and not OPEN.match(words):
         return Verdict("ill-formed", by, head)
     causes = [e[4] for e in errors if not FOLLOWS.search(e[4])]
     return Verdict("by shape" if causes and all(SHAPE.search(c) for c in causes) else "refused", by, head)

@@ -6,16 +6,16 @@ from functools import lru_cache
 Mutant = namedtuple("Mutant", "crate file line column start old new kind")
 Token = namedtuple("Token", "text start")
 Decl = namedtuple("Decl", "args result start owner")  # owner: the record of a field, else None
-Function = namedtuple("Function", "name owner params result body contracts")  # owner: the type of a method
+Function = namedtuple("Function", "name owner params result body contracts")  # owner: the type of a method; contracts: where the clauses lie
 
-# What the libraries offer under the same type; an operator `o` is imported as `_o_`.
-FAMILIES = ["&& ||", "+ - *", "/ %", "< ≤", "ltb leb eqb", "bitAnd bitOr bitXor", "true false", "take drop"]
+# What the libraries offer under the same type; an operator `o` is imported as `◌o◌`.
+FAMILIES = ["&& ||", "+ - *", "/ %", "< ≤", "ltb leb eqb", "bit_and bit_or bit_xor", "true false", "take drop"]
 OPERATORS = ["== !=", "< <=", "> >=", "&& ||", "| &", "^ |", "+ -", "* +", "/ %", "<< >>", "+= -=", "true false"]
 OPENING, CLOSING = "([{", ")]}"
-ANTT = re.compile(r"--[^\n]*|[(){}\[\];,]|[^\s(){}\[\];,]+")
-CODE = re.compile(r"//[^\n]*|⌜[^⌝]*⌝|b?\"(?:\\.|[^\"\\])*\"|[A-Za-z_]\w*|\d\w*|'[a-z]\w*|=>|->|::|\.\.|&&|\|\||<<|>>|[<>=!+*/%&|^-]=|\S")
+ANTT = re.compile(r"--[^\n]*|[(){}\[\];,]|\.(?=[^\W\d])[^\s(){}\[\];,.]+|(?:[^\s(){}\[\];,.]|\.(?![^\W\d]))+")
+CODE = re.compile(r"//[^\n]*|b?\"(?:\\.|[^\"\\])*\"|[A-Za-z_]\w*|\d\w*|'[a-z]\w*|=>|->|::|\.\.|&&|\|\||<<|>>|[<>=!+*/%&|^-]=|\S")
 USE = re.compile(r"^(?:ghost )?use ([^\s{]+)\.\{([^}]*)\}", re.M)
-OURS = re.compile(r"Rattle·(\w+)(?:·specs)?\.specs\.(\w+)$")
+OURS = re.compile(r"Rattle\.(\w+)\.specs\.(\w+)$")
 
 
 def tokens_of(pattern, text, start=0, end=None):
@@ -175,7 +175,7 @@ def scope_of(root, path, text):
 
 def imported(name):
     """The name under which a library's operation is imported."""
-    return name if re.match(r"\w", name) else f"_{name}_"
+    return name if re.match(r"\w", name) else f"◌{name}◌"
 
 
 def offered(text, old):
@@ -265,9 +265,9 @@ def term_mutants(tokens, text, names, fields, variables, own, mutable=()):
             continue
         if word.isdigit():
             yield from ((t, new, "constant") for new in numbers(word))
-        elif word in (".entry", ".exit"):
+        elif word in (".old", ".new"):
             if before in mutable:
-                yield t, {".entry": ".exit", ".exit": ".entry"}[word], "field"
+                yield t, {".old": ".new", ".new": ".old"}[word], "field"
         elif word.startswith(".") and len(word) > 1:
             yield from ((t, "." + new, "field") for new in siblings(fields, word[1:]))
         elif word in variables:
@@ -307,8 +307,10 @@ def functions(tokens):
         j, result, contracts = closed + 1, [], []
         while tokens[j].text != "{":
             if tokens[j].text in ("requires", "ensures"):
-                contracts += [c for c in tokens[j + 1 : matching(tokens, j + 1)] if c.text.startswith("⌜")]
-                j = matching(tokens, j + 1)
+                # a clause may have a name before its bracket
+                begin = next(i for i in range(j, len(tokens)) if tokens[i].text == "{")
+                j = matching(tokens, begin)
+                contracts.append((tokens[begin].start + 1, tokens[j].start))
             elif not contracts:
                 result.append(tokens[j])
             j += 1
@@ -337,11 +339,11 @@ def declared(path):
 def code_scope(root, path, text):
     """The functions and constants that a file of code can name, and the types that it can know of."""
     values, types = map(dict, declared(path))
-    for crate, name in re.findall(r"^use (\w+)(?:::\w+)*::(\w+);", text, re.M):
+    for crate, group in re.findall(r"^use (\w+)(?:::\w+)*::(\{[^}]*\}|\w+);", text, re.M):
         source = path.parent if crate == "crate" else root / "crates" / crate / "src"
         for file in sorted(source.glob("*.rt")):
             other = declared(file)
-            values.update({name: other[0][name]} if name in other[0] else {})
+            values.update({name: other[0][name] for name in re.findall(r"\w+", group) if name in other[0]})
             types.update(other[1])
     return values, types
 
@@ -454,8 +456,8 @@ def code_mutants(root, path):
         yield from body_mutants(f, values, types)
         variables = {p: LOGICAL.get(kind, kind) for p, kind in f.params.items()}
         mutable = [p for p, kind in f.params.items() if kind.startswith("& mut")]
-        for c in f.contracts:
-            terms = tokens_of(ANTT, text, c.start + 1, c.start + len(c.text) - 1)
+        for begin, end in f.contracts:
+            terms = tokens_of(ANTT, text, begin, end)
             found = term_mutants(terms, text, names, known, variables, None, mutable)
             yield from ((t, new, "promised " + kind) for t, new, kind in found)
 
