@@ -10,8 +10,8 @@
  * What the library needs. It is x86-64 code and uses SSE registers, which a task that calls it must be allowed to. Of the C library it calls
  * memcpy and memset, nothing else. No call keeps a pointer, has memory of its own between calls, uses the heap or calls the system.
  *
- * Stack of a call, as measured on the largest and the deepest policies (docs/BENCHMARKS.md): fretmere_check 1,192 bytes, fretmere_open,
- * fretmere_offer and fretmere_close at most 4,640, fretmere_write 7,928.
+ * Stack of a call, as measured with the older kit on the largest and the deepest policies (docs/BENCHMARKS.md): fretmere_check 1,192 bytes,
+ * fretmere_open, fretmere_offer and fretmere_close at most 4,640, fretmere_write 7,928.
  *
  * Calls at the same time. The policy is only read: calls that run at once may share it. State and event buffers are written: no two
  * calls at once may have one of these in common.
