@@ -21,7 +21,8 @@ use Rattle.laws_turns.proofs.Cells.{Kept, lawful-apart, status-is, cells-length,
 use Rattle.laws_turns.specs.Cells.{cell_at}
 use Rattle.laws_turns.proofs.Fits.{saved-cells}
 use Rattle.laws_turns.proofs.Lasting.{in_cells}
-use Rattle.call_answer.specs.declared.Answer.TheVariants.{Answered}
+use Rattle.std.specs.Prelude.{Ok}
+use Rattle.call_answer.specs.Replies.{Answer}
 use Rattle.call_answer.specs.Ends.{verdicts, Added, Ended}
 
 -- the verdict's event, as code stores it
@@ -75,5 +76,7 @@ module _ {policy : Bytes} (ok : Passed policy) where
       (subst (λ (i : ℕ). cell_at (saved_cells t s) i ≡ cell s) (root-number policy)
       (kept-root t s (saved_cells t s) (cells-kept t (lawful-apart t (lawful policy ok)) (in_cells policy ok) s)))
 
-  pub ended : {s : State} (n : ℕ) {b : ℕ} {bytes : Bytes} → bytes ≡ saved (tree policy) s → b ≡ status_at (cells bytes) 0 → Ended (tree policy) s n (Answered n b) bytes
-  ended {s} n e f = record { answer = ap (Answered n) (f ∙ ap (λ (bs : Bytes). status_at (cells bs) 0) e ∙ ap (λ (bs : Bytes). status_at bs 0) (saved-cells (tree policy) s) ∙ saved-root s); state = e }
+  pub ended : {s : State} (n : ℕ) {b : ℕ} {bytes : Bytes} → bytes ≡ saved (tree policy) s → b ≡ status_at (cells bytes) 0 → Ended (tree policy) s n (Ok (record { events = n; status = b })) bytes
+  ended {s} n e f =
+      let said : ℕ → Answer = λ k. Ok (record { events = n; status = k }) in
+      record { answer = ap said (f ∙ ap (λ (bs : Bytes). status_at (cells bs) 0) e ∙ ap (λ (bs : Bytes). status_at bs 0) (saved-cells (tree policy) s) ∙ saved-root s); state = e }

@@ -13,19 +13,20 @@ use Rattle.laws_turns.proofs.Cells.{status-back}
 use Rattle.faults.specs.declared.Fault.{Fault}
 use Rattle.faults.specs.Meaning.{fault_of, fault_value}
 use Rattle.faults.proofs.Once.{value-means}
-use Rattle.call_answer.specs.Replies.{spoken, Gave}
-use Rattle.call_answer.specs.declared.Answer.{Answer}
-use Rattle.call_answer.specs.declared.Answer.TheVariants.{Answered, Refused}
+use Rattle.std.specs.Prelude.{Ok, Err}
+use Rattle.call_answer.specs.Replies.{Answer, spoken, Gave}
+use Rattle.call_answer.specs.declared.Answered.{Answered}
 
-pub heard : (q : Reply) (n k : ℕ) → Answered n k ≡ spoken q → q ≡ answers n (status_of k)
+pub heard : (q : Reply) (n k : ℕ) → Ok (record { events = n; status = k }) ≡ spoken q → q ≡ answers n (status_of k)
 unfolding spoken
 heard (answers m s) n k e =
-    let a : m ≡ n = cc in
-    let b : status_number s ≡ k = cc in
+    let both : ◌≡◌ {A = Answered} (record { events = n; status = k }) (record { events = m; status = status_number s }) = cc in
+    let a : m ≡ n = ap (λ (x : Answered). x.events) (sym both) in
+    let b : status_number s ≡ k = ap (λ (x : Answered). x.status) (sym both) in
     ap₂ answers a (sym (status-back s) ∙ ap status_of b)
 heard (refuses m) n k e = let z : ◌≡◌ {A = ℕ} 0 1 = cc in absurd (omega arith)
 
-pub heard-refusal : (q : Reply) (f : Fault) → Refused f ≡ spoken q → q ≡ refuses (fault_of f)
+pub heard-refusal : (q : Reply) (f : Fault) → Err f ≡ spoken q → q ≡ refuses (fault_of f)
 unfolding spoken
 heard-refusal (answers m s) f e = let z : ◌≡◌ {A = ℕ} 0 1 = cc in absurd (omega arith)
 heard-refusal (refuses m) f e = let a : fault_value m ≡ f = cc in ap refuses (sym (value-means f m a))
@@ -37,7 +38,7 @@ module _ (policy : Bytes) where
   gave-as state events {saved} {room} {r} e g = subst (λ (x : Request). Gave (entry policy x state events) r saved room) e g
 
   -- the events are in the buffer, and few
-  pub few : (q : Request) (state events : Bytes) {saved room : Bytes} {r : Answer} {n k : ℕ} → Gave (entry policy q state events) r saved room → r ≡ Answered n k
+  pub few : (q : Request) (state events : Bytes) {saved room : Bytes} {r : Answer} {n k : ℕ} → Gave (entry policy q state events) r saved room → r ≡ Ok (record { events = n; status = k })
       → (2 * n ≤ length room) × (n ≤ 256)
   few q state events {saved} {room} {r} {n} {k} g e =
       let h = heard (entry policy q state events).reply n k (sym e ∙ g.answer) in

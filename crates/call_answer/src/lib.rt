@@ -28,12 +28,14 @@ pub enum Call {
     Close,
 }
 
-// The number of events and the root's status, or a refusal.
+// The number of events and the root's status.
 #[derive(Clone, Copy)]
-pub enum Answer {
-    Answered(usize, u8),
-    Refused(Fault),
+pub struct Answered {
+    pub events: usize,
+    pub status: u8,
 }
+
+pub type Answer = Result<Answered, Fault>;
 
 // "The verdict's event stands between the phases; a halt before the verdict has none."
 pub fn judge(
@@ -68,9 +70,10 @@ fn verdict_byte(suppressed: bool) -> u8
     ensures { (a : Action) → event_bytes (event_of (spec.verdict suppressed a)) ≡ result ∷ a ∷ [] }
 {
     if suppressed {
-        return EVENT_SUPPRESSED;
+        EVENT_SUPPRESSED
+    } else {
+        EVENT_ACCEPTED
     }
-    EVENT_ACCEPTED
 }
 
 // Every answered call ends so: the state is made canonical, and the root's status read from it.
@@ -86,5 +89,8 @@ pub fn finish(
     ensures { Ended (tree policy.now) (held (tree policy.now) (memory_of mem.old)) count result state.new }
 {
     tidy(policy, nodes, mem, state);
-    Answer::Answered(count, saved_status(state, 0))
+    Ok(Answered {
+        events: count,
+        status: saved_status(state, 0),
+    })
 }

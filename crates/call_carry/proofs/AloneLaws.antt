@@ -26,8 +26,7 @@ use Rattle.file_records.specs.Kinds.{kind_of}
 use Rattle.file_records.specs.declared.Kind.{Kind}
 use Rattle.file_records.specs.declared.Kind.TheVariants.{Trivial, Unsatisfiable}
 use Rattle.turn_tables.proofs.FileNodes.{room}
-use Rattle.call_answer.specs.declared.Answer.{Answer}
-use Rattle.call_answer.specs.Replies.{spoken, Gave}
+use Rattle.call_answer.specs.Replies.{Answer, spoken, Gave}
 use Rattle.call_answer.specs.Ends.{Ended}
 
 -- ---- the tree, by the kind that was read of the root

@@ -35,12 +35,11 @@ use Rattle.turn_memory.proofs.ToldLaws.{told_none, tells_none}
 use Rattle.turn_tables.specs.Tables.{Tabled, Kept}
 use Rattle.turn_tables.proofs.FileNodes.{room}
 use Rattle.turn_rest.specs.Rest.{KeptFrom}
-use Rattle.call_answer.specs.declared.Answer.{Answer}
-use Rattle.call_answer.specs.declared.Answer.TheVariants.{Answered}
+use Rattle.std.specs.Prelude.{Ok}
 use Rattle.call_answer.specs.declared.Call.{Call}
 use Rattle.call_answer.specs.declared.Call.TheVariants.{Offer}
 use Rattle.call_answer.specs.Requests.{asked}
-use Rattle.call_answer.specs.Replies.{spoken, Gave}
+use Rattle.call_answer.specs.Replies.{Answer, spoken, Gave}
 use Rattle.call_answer.specs.Ends.{Ended}
 use Rattle.call_answer.proofs.EndLaws.{ended}
 use Rattle.call_phase.specs.Phased.{Ready, items_of, events_of, Phased, Played}
@@ -85,8 +84,8 @@ phase-played h = record { added = h.added; ends = sym (ap (λ (x : Out). x.state
 pub gave : {t : Tree} {p : Process} {m : Mem} {room room' bytes : Bytes} {n : ℕ} {r : Answer}
     → Played t p m room room' n → Ended t (held t m) n r bytes → Gave (carried t p room) r bytes room'
 unfolding carried spoken
-gave {t} h e = record {
-  answer = e.answer ∙ ap₂ (λ (k : ℕ) (s : State). Answered k (status_number (status s))) (omega (arith, h.added.counted)) h.ends;
+gave {t} h e = let said_so : ℕ → State → Answer = λ k s. Ok (record { events = k; status = status_number (status s) }) in record {
+  answer = e.answer ∙ ap₂ said_so (omega (arith, h.added.counted)) h.ends;
   state = e.state ∙ ap (saved t) h.ends;
   events = h.added.told;
 }
@@ -133,24 +132,24 @@ offer-asked policy state a e h =
 -- "accepted with no change": where it is not, every byte of the state is as it was
 pub stayed : (policy state room : Bytes) {room' : Bytes} → Passed policy → length state ≡ state_size → Small state → T (fits policy state) → (a : Action) {b : ℕ}
     → (is_running (status_of (status_at (cells state) 0)) && has (regulated (tree policy)) a) ≡ false → b ≡ status_at (cells state) 0
-    → room' ≡ put room 0 (event_bytes (event_of (verdict false a))) → Gave (carried_out policy (offer a) state room) (Answered 1 b) state room'
+    → room' ≡ put room 0 (event_bytes (event_of (verdict false a))) → Gave (carried_out policy (offer a) state room) (Ok (record { events = 1; status = b })) state room'
 unfolding carried_out carried spoken verdict quiet items trace outcome events event_of
 stayed policy state room {room'} ok size small fit a {b} e f g =
     let t : Tree = tree policy in
     let same : state ≡ saved t (load t (cells state)) = sym (saved-load policy ok state size small fit) in
-    subst (λ (p : Process). Gave (carried t p room) (Answered 1 b) state room') (sym (unasked t a (load t (cells state)) (root-asked policy state a ∙ e)))
+    subst (λ (p : Process). Gave (carried t p room) (Ok (record { events = 1; status = b })) state room') (sym (unasked t a (load t (cells state)) (root-asked policy state a ∙ e)))
     (record { answer = (ended ok 1 same f).answer; state = same; events = g })
 
 -- "Closing a decided root emits nothing and answers its status."
 pub closed : (policy state room : Bytes) → Passed policy → length state ≡ state_size → Small state → T (fits policy state) → {b : ℕ} {v : Bool}
-    → b ≡ status_at (cells state) 0 → v ≡ is_running (status_of b) → v ≡ false → Gave (carried_out policy close state room) (Answered 0 b) state room
+    → b ≡ status_at (cells state) 0 → v ≡ is_running (status_of b) → v ≡ false → Gave (carried_out policy close state room) (Ok (record { events = 0; status = b })) state room
 unfolding carried_out carried call spoken quiet items trace outcome events event_bytes
 closed policy state room ok size small fit {b} f g e =
     let t : Tree = tree policy in
     let same : state ≡ saved t (load t (cells state)) = sym (saved-load policy ok state size small fit) in
     let stopped : is_running (status (load t (cells state))) ≡ false =
     ap is_running (sym (root-read policy state)) ∙ ap (λ (k : ℕ). is_running (status_of k)) (sym f) ∙ sym g ∙ e in
-    subst (λ (p : Process). Gave (carried t p room) (Answered 0 b) state room) (sym (decided-quiet t (load t (cells state)) stopped))
+    subst (λ (p : Process). Gave (carried t p room) (Ok (record { events = 0; status = b })) state room) (sym (decided-quiet t (load t (cells state)) stopped))
     (record { answer = (ended ok 0 same f).answer; state = same; events = sym (put-none room 0) })
 
 -- ---- the steps of a call

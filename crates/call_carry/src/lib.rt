@@ -24,7 +24,7 @@ ghost use Rattle.call_answer.specs.Ends.{Ended};
 ghost use Rattle.call_answer.specs.Replies.{Gave};
 
 use actions::ActionSet;
-use call_answer::{Answer, Call, finish, put_verdict};
+use call_answer::{Answer, Answered, Call, finish, put_verdict};
 use call_offer::play;
 use call_phase::run_phase;
 use file_records::{Kind, nodes_of, steps_of};
@@ -86,7 +86,7 @@ pub fn carry_action_counting(
         return carry_out_counting(policy, state, events, Call::Offer(action), counts, counting);
     }
     put_verdict(events, 0, false, action);
-    Answer::Answered(1, status)
+    Ok(Answered { events: 1, status })
 }
 
 // A call on the caller's file, state and events. The file's counts are read here, once for the whole call.
@@ -163,7 +163,7 @@ fn open_alone(state: &mut [u8], status: u8) -> Answer
     ensures { (s : Status) → status ≡ status_number s → Ended (trivial 0) (leaf_over s) 0 result state.new }
 {
     tidy_alone(state, status);
-    Answer::Answered(0, status)
+    Ok(Answered { events: 0, status })
 }
 
 fn open_tree(
@@ -206,7 +206,7 @@ fn carry_close(
 {
     let status = saved_status(state, 0);
     if !is_running(status) {
-        return Answer::Answered(0, status);
+        return Ok(Answered { events: 0, status });
     }
     let mut mem = [0u64; WORDS];
     wake(state, nodes, &mut mem);

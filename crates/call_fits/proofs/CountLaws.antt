@@ -1,17 +1,17 @@
 -- The running leaves, counted from the last node to the first, and the count that a state says it has.
-use Prim.Native.Nat.{ℕ, ◌+◌, ◌-◌, ◌≤◌, ◌<◌}
+use Prim.Native.Nat.{ℕ, ◌+◌, ◌-◌, ◌≤◌}
 use native.Mathlib.Omega.{arith}
-use mathlib.Core.Path.{◌≡◌, refl, sym, ap, ◌∙◌}
+use mathlib.Core.Path.{◌≡◌, refl, ap, ◌∙◌}
 use mathlib.Core.Bool.{Bool, true, false, ◌&&◌}
 use lib.Dec.{eqb}
-use borrow.Author.Tests.{eq-eqb}
+use Rattle.std.specs.Int.{from_bool}
 use Rattle.spec_policy.specs.Bytes.{Bytes, number}
 use Rattle.spec_policy.specs.Lists.{one}
-use Rattle.spec_policy.specs.Records.{most_nodes, node_count, node_at, node_place}
+use Rattle.spec_policy.specs.Records.{node_count, node_at, node_place}
 use Rattle.spec_policy.specs.Tree.{NodeKind, aLeaf, aTrivial, an_unsatisfiable, aPair, no_node, node_kind, tree}
 use Rattle.spec_check.specs.Passed.{Passed}
 use Rattle.spec_turns.specs.Status.{status_of, is_running}
-use Rattle.spec_turns.proofs.StatusLaws.{running-one, not-running}
+use Rattle.spec_turns.proofs.StatusLaws.{running-one}
 use Rattle.check_leaves.proofs.LeafLaws.{Counted}
 use Rattle.spec_turns.specs.Saved.{count_place, cells, status_at, is_running_at, count_at, count_fits}
 use Rattle.laws_turns.specs.Leaves.{is_leaf, leaf_worth, leaves_below}
@@ -43,13 +43,13 @@ module _ (file bs : Bytes) (n : ℕ) where
 
 -- ---- a node's part
 
-pub runs-one : (s : ℕ) → s ≡ 1 → 1 ≡ one (is_running (status_of s))
+pub runs-one : (s : ℕ) → from_bool (eqb s 1) ≡ one (is_running (status_of s))
 unfolding one
-runs-one s e = sym (ap one (sym (running-one s) ∙ eq-eqb s 1 e))
-
-pub rests-none : (s : ℕ) → (s ≡ 1 → ⊥) → 0 ≡ one (is_running (status_of s))
-unfolding one
-rests-none s h = sym (ap one (not-running s h))
+runs-one s = as-number (eqb s 1) ∙ ap one (running-one s)
+  where
+    as-number : (b : Bool) → from_bool b ≡ one b
+    as-number true = refl
+    as-number false = refl
 
 -- by the number of its steps: a leaf has steps, and no other node has
 module _ {file : Bytes} {i count : ℕ} (c : Counted file i count) (runs : Bool) where

@@ -6,7 +6,7 @@ use mathlib.Core.List.{List, [], ◌∷◌}
 use lib.Dec.{eqb}
 use borrow.Author.Tests.{ne_eqb, eq-eqb, eqb-true}
 use Rattle.actions.specs.Sets.{ActionSet}
-use Rattle.actions.proofs.Tests.{and-true, and_first, and_second}
+use Rattle.actions.proofs.Tests.{and-true, and_assoc, and_first, and_second}
 use Rattle.spec_policy.specs.Bytes.{Bytes}
 use Rattle.spec_policy.specs.Lists.{among}
 use Rattle.spec_policy.specs.Steps.{Step}
@@ -86,13 +86,13 @@ module _ (bs : Bytes) (i s : ℕ) (e : s ≡ status_at bs i) (b : Bool) (f : b �
   unfolding among
   constant_by o = (λ k. (eqb (e k) o || eqb (e k) 6) && f k) ∙ by_itself (eqb (status_at bs i) o) (eqb (status_at bs i) 6) (bare bs i)
 
-  pub trivial-alone : ((eqb s 2 || eqb s 6) && b) ≡ fits_alone (trivial i) bs
+  pub trivial-alone : {o : ℕ} → o ≡ 2 → ((eqb s o || eqb s 6) && b) ≡ fits_alone (trivial i) bs
   unfolding fits_under fits_alone number_of dropped_with
-  trivial-alone = constant_by 2
+  trivial-alone h = ap (λ (o : ℕ). (eqb s o || eqb s 6) && b) h ∙ constant_by 2
 
-  pub unsatisfiable-alone : ((eqb s 5 || eqb s 6) && b) ≡ fits_alone (unsatisfiable i) bs
+  pub unsatisfiable-alone : {o : ℕ} → o ≡ 5 → ((eqb s o || eqb s 6) && b) ≡ fits_alone (unsatisfiable i) bs
   unfolding fits_under fits_alone number_of dropped_with
-  unsatisfiable-alone = constant_by 5
+  unsatisfiable-alone h = ap (λ (o : ℕ). (eqb s o || eqb s 6) && b) h ∙ constant_by 5
 
 -- ---- a pair
 
@@ -108,24 +108,26 @@ is_same : (b : Bool) → b ≡ beq b true
 is_same true = refl
 is_same false = refl
 
-pub sides-running : (j : Join) (running : Bool) (l r : ℕ) (u : Bool) → running ≡ true → u ≡ undecided j (status_of l) (status_of r)
-    → (u && not (eqb l 6) && not (eqb r 6)) ≡ sides j running l r
-sides-running j running l r u t e =
-    (λ k. e k && not_same (eqb l 6) k && not_same (eqb r 6) k) ∙ sym (ap (λ (b : Bool). sides j b l r) t)
+-- those of a node that runs, as the code tests them
+abbrev running_sides : Join → ℕ → ℕ → Bool
+running_sides j l r = undecided j (status_of l) (status_of r) && not (eqb l 6) && not (eqb r 6)
 
-pub sides-run : (j : Join) (running : Bool) (l r : ℕ) → running ≡ true → (eqb l 1 && eqb r 1) ≡ true → true ≡ sides j running l r
+sides-running : (j : Join) (l r : ℕ) → running_sides j l r ≡ sides j true l r
+sides-running j l r = λ k. undecided j (status_of l) (status_of r) && not_same (eqb l 6) k && not_same (eqb r 6) k
+
+sides-over : (j : Join) (l r : ℕ) → (eqb l 6 && eqb r 6) ≡ sides j false l r
+sides-over j l r = λ k. is_same (eqb l 6) k && is_same (eqb r 6) k
+
+pub sides-run : (j : Join) (l r : ℕ) → (eqb l 1 && eqb r 1) ≡ true → (eqb l 1 && eqb r 1) ≡ running_sides j l r
 unfolding undecided status_of is_halted has_ended
-sides-run j running l r t e =
+sides-run j l r e =
     let el : l ≡ 1 = eqb-true l 1 (and_first (eqb l 1) (eqb r 1) e) in
     let er : r ≡ 1 = eqb-true r 1 (and_second (eqb l 1) (eqb r 1) e) in
-    both j ∙ λ k. sides j (sym t k) (sym el k) (sym er k)
+    e ∙ both j ∙ λ k. running_sides j (sym el k) (sym er k)
   where
-    both : (j : Join) → true ≡ sides j true 1 1
+    both : (j : Join) → true ≡ running_sides j 1 1
     both and = refl
     both or = refl
-
-pub sides-over : (j : Join) (running : Bool) (l r : ℕ) → running ≡ false → (eqb l 6 && eqb r 6) ≡ sides j running l r
-sides-over j running l r t = (λ k. is_same (eqb l 6) k && is_same (eqb r 6) k) ∙ sym (ap (λ (b : Bool). sides j b l r) t)
 
 arranged : (e a b c l r x y : Bool) → e ≡ true → (a && b && (c && l && r) && x && y) ≡ (e && a && b && c && (l && x) && (r && y))
 arranged e a b c l r x y h = by a b c l r x y ∙ ap (λ (q : Bool). q && a && b && c && (l && x) && (r && y)) (sym h)
@@ -174,16 +176,18 @@ module _ (bs : Bytes) (j : Join) (i left right s a b : ℕ) (es : s ≡ status_a
       off true = ap (λ (t : Bool). t && sides j (eqb s 1) a b && x && y) e
       off false = refl
 
-  module _ (full : ba ≡ true) (si : Bool) where
-    pub pair_runs : s ≡ 1 → si ≡ sides j true a b → (w : Way) (l r : Tree) → number_of l ≡ left → number_of r ≡ right → x ≡ fits_alone l bs → y ≡ fits_alone r bs
+  module _ (full : ba ≡ true) where
+    pub pair_runs : {si : Bool} → s ≡ 1 → si ≡ running_sides j a b → (w : Way) (l r : Tree) → number_of l ≡ left → number_of r ≡ right → x ≡ fits_alone l bs → y ≡ fits_alone r bs
         → (si && x && y) ≡ fits_alone (node w j i l r) bs
-    pair_runs e esi w l r nl nr ex ey =
+    pair_runs {si} e esi w l r nl nr ex ey =
         ap (λ (t : Bool). true && t && si && x && y) (sym full)
         ∙ pair-alone bs j i left right s a b es ea eb true ba si x y (sym (ap (λ (n : ℕ). among n (statuses j)) e ∙ runs j)) eba
-        (esi ∙ ap (λ (t : Bool). sides j t a b) (sym (eq-eqb s 1 e))) w l r nl nr ex ey
+        (esi ∙ sides-running j a b ∙ ap (λ (t : Bool). sides j t a b) (sym (eq-eqb s 1 e))) w l r nl nr ex ey
 
-    pub pair-over : (s ≡ 1 → ⊥) → (st : Bool) → st ≡ among s (statuses j) → si ≡ sides j false a b → (w : Way) (l r : Tree) → number_of l ≡ left → number_of r ≡ right
-        → x ≡ fits_alone l bs → y ≡ fits_alone r bs → (st && si && x && y) ≡ fits_alone (node w j i l r) bs
-    pair-over e st est esi w l r nl nr ex ey =
-        ap (λ (t : Bool). t && si && x && y) (sym (and-true st) ∙ ap (λ (t : Bool). st && t) (sym full))
-        ∙ pair-alone bs j i left right s a b es ea eb st ba si x y est eba (esi ∙ ap (λ (t : Bool). sides j t a b) (sym (ne_eqb s 1 e))) w l r nl nr ex ey
+    pub pair-over : {st : Bool} → (s ≡ 1 → ⊥) → st ≡ among s (statuses j) → (w : Way) (l r : Tree) → number_of l ≡ left → number_of r ≡ right
+        → x ≡ fits_alone l bs → y ≡ fits_alone r bs → (st && eqb a 6 && eqb b 6 && x && y) ≡ fits_alone (node w j i l r) bs
+    pair-over {st} e est w l r nl nr ex ey =
+        ap (λ (t : Bool). t && x && y) (sym (and_assoc st (eqb a 6) (eqb b 6)))
+        ∙ ap (λ (t : Bool). t && (eqb a 6 && eqb b 6) && x && y) (sym (and-true st) ∙ ap (λ (t : Bool). st && t) (sym full))
+        ∙ pair-alone bs j i left right s a b es ea eb st ba (eqb a 6 && eqb b 6) x y est eba (sides-over j a b ∙ ap (λ (t : Bool). sides j t a b) (sym (ne_eqb s 1 e)))
+        w l r nl nr ex ey

@@ -1,20 +1,39 @@
 -- The two zeros of the first records.
-use Prim.Native.Nat.{ℕ, suc, ◌≤◌}
+use Prim.Native.Nat.{ℕ, zero, suc, ◌+◌}
 use native.Mathlib.Omega.{arith}
-use mathlib.Core.Path.{◌≡◌, ap}
-use mathlib.Core.Bool.{Bool, true, ◌&&◌}
+use native.Mathlib.Numerals.{add-one}
+use mathlib.Core.Path.{◌≡◌, refl, sym, ap, ◌∙◌}
+use mathlib.Core.Bool.{Bool, true, false, ◌&&◌, and-true}
 use lib.Dec.{eqb}
+use Rattle.std.specs.List.{list_all, range_with_len}
 use Rattle.spec_policy.specs.Bytes.{Bytes}
 use Rattle.spec_turns.specs.Saved.{zeros_at, zeros_up_to}
 
-abbrev pub is_zero : ℕ → Bool
-is_zero b = eqb b 0
+turned : (t l z : Bool) → ((t && l) && z) ≡ (l && (t && z))
+turned true l z = refl
+turned false true z = refl
+turned false false z = refl
 
-pub zeros-none : (bs : Bytes) (i : ℕ) → i ≤ 0 → zeros_up_to bs i ≡ true
-unfolding zeros_up_to
-zeros-none bs i h = let z : i ≡ 0 = omega arith in ap (λ (k : ℕ). zeros_up_to bs k) z
+module _ (bs : Bytes) where
+  abbrev pub zeros : ℕ → Bool
+  zeros i = eqb (zeros_at bs i) 0
 
--- the last of the first i, the code's i being one less
-pub zeros-last : (bs : Bytes) (i k : ℕ) → i ≡ suc k → zeros_up_to bs i ≡ (is_zero (zeros_at bs k) && zeros_up_to bs k)
-unfolding zeros_up_to
-zeros-last bs i k e = ap (λ (n : ℕ). zeros_up_to bs n) e
+  one-more : (i : ℕ) → zeros_up_to bs (i + 1) ≡ (zeros i && zeros_up_to bs i)
+  unfolding zeros_up_to
+  one-more i = ap (zeros_up_to bs) (add-one i)
+
+  zeros-from : (i n : ℕ) → (list_all zeros (range_with_len i n) && zeros_up_to bs i) ≡ zeros_up_to bs (i + n)
+  zeros-from i zero = let e : i ≡ i + 0 = omega arith in ap (zeros_up_to bs) e
+  zeros-from i (suc n) =
+      let e : i + 1 + n ≡ i + suc n = omega arith in
+      turned (zeros i) (list_all zeros (range_with_len (i + 1) n)) (zeros_up_to bs i)
+      ∙ ap (λ (b : Bool). list_all zeros (range_with_len (i + 1) n) && b) (sym (one-more i))
+      ∙ zeros-from (i + 1) n
+      ∙ ap (zeros_up_to bs) e
+
+  -- tested from the first on
+  pub zeros-all : (n : ℕ) → list_all zeros (range_with_len 0 n) ≡ zeros_up_to bs n
+  unfolding zeros_up_to
+  zeros-all n =
+      let e : 0 + n ≡ n = omega arith in
+      sym (and-true (list_all zeros (range_with_len 0 n))) ∙ zeros-from 0 n ∙ ap (zeros_up_to bs) e

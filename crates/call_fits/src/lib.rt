@@ -24,6 +24,7 @@ use turn_state::{
 
 // ---- one record of the state
 
+#[tactic(auto, unfolding(spec_turns::specs::Saved::bare))]
 fn bare(state: &[u8], i: usize) -> bool
     requires { (length state.now ≡ state_size) × (i < most_nodes) }
     ensures { result ≡ bare (cells state.now) i }
@@ -37,7 +38,7 @@ fn waits(policy: &[u8], first: usize, count: usize, start: u64, state: &[u8], i:
     requires state_len { (length state.now ≡ state_size) × (i < most_nodes) }
     ensures { result ≡ waits_at (code_from policy.now first count) start (cells state.now) i }
 {
-    let offset = saved_offset(state, i) as usize;
+    let offset = usize::from(saved_offset(state, i));
     if count <= offset {
         return false;
     }
@@ -49,19 +50,17 @@ fn waits(policy: &[u8], first: usize, count: usize, start: u64, state: &[u8], i:
 // ---- statuses
 
 // A status that a node of this join can have.
+#[tactic(auto, unfolding(spec_policy::specs::Lists::among, spec_turns::specs::Saved::statuses, file_records::specs::Kinds::join_of))]
 fn is_status(join: Join, s: u8) -> bool
     ensures { result ≡ among s (statuses (join_of join)) }
 {
     match join {
-        Join::And => (s == RUNNING) | (s == ENDED) | (s == HALTED) | (s == DROPPED),
-        Join::Or => (s == RUNNING)
-            | (s == ENDED_LEFT)
-            | (s == ENDED_RIGHT)
-            | (s == HALTED)
-            | (s == DROPPED),
+        Join::And => matches!(s, RUNNING | ENDED | HALTED | DROPPED),
+        Join::Or => matches!(s, RUNNING | ENDED_LEFT | ENDED_RIGHT | HALTED | DROPPED),
     }
 }
 
+#[tactic(auto, unfolding(spec_turns::specs::Saved::undecided, file_records::specs::Kinds::join_of))]
 fn undecided(join: Join, l: u8, r: u8) -> bool
     ensures { result ≡ undecided (join_of join) (status_of l) (status_of r) }
 {
@@ -71,20 +70,11 @@ fn undecided(join: Join, l: u8, r: u8) -> bool
     }
 }
 
-// The sides of a running node have not decided it and are not dropped; those of any other node are dropped. Sides that both run, which most do, are
-// neither.
-fn sides_fit(join: Join, running: bool, l: u8, r: u8) -> bool
-    ensures { result ≡ ((not running || undecided (join_of join) (status_of l) (status_of r))
-        && beq (eqb l 6) (not running) && beq (eqb r 6) (not running)) }
+// The sides of a running node have not decided it and are not dropped. Sides that both run, which most do, are neither.
+fn running_sides_fit(join: Join, l: u8, r: u8) -> bool
+    ensures { result ≡ (undecided (join_of join) (status_of l) (status_of r) && not (eqb l 6) && not (eqb r 6)) }
 {
-    if running {
-        if (l == RUNNING) & (r == RUNNING) {
-            return true;
-        }
-        undecided(join, l, r) & (l != DROPPED) & (r != DROPPED)
-    } else {
-        (l == DROPPED) & (r == DROPPED)
-    }
+    ((l == RUNNING) & (r == RUNNING)) || (undecided(join, l, r) & (l != DROPPED) & (r != DROPPED))
 }
 
 // ---- one node, its parent left aside
@@ -102,23 +92,17 @@ fn leaf_fits(policy: &[u8], first: usize, count: usize, start: u64, state: &[u8]
     ((s == ENDED) | (s == HALTED) | (s == DROPPED)) & bare(state, i)
 }
 
-fn trivial_fits(state: &[u8], i: usize) -> bool
+// A node that is over when it opens, with this status, and then stands at it until it is dropped: a trivial one, or an unsatisfiable one.
+fn constant_fits(over: u8, state: &[u8], i: usize) -> bool
     requires { (length state.now ≡ state_size) × (i < most_nodes) }
-    ensures { result ≡ fits_alone (spec.trivial i) (cells state.now) }
+    ensures trivial { over ≡ 2 → result ≡ fits_alone (spec.trivial i) (cells state.now) }
+    ensures unsatisfiable { over ≡ 5 → result ≡ fits_alone (spec.unsatisfiable i) (cells state.now) }
 {
     let s = saved_status(state, i);
-    ((s == ENDED) | (s == DROPPED)) & bare(state, i)
+    ((s == over) | (s == DROPPED)) & bare(state, i)
 }
 
-fn unsatisfiable_fits(state: &[u8], i: usize) -> bool
-    requires { (length state.now ≡ state_size) × (i < most_nodes) }
-    ensures { result ≡ fits_alone (spec.unsatisfiable i) (cells state.now) }
-{
-    let s = saved_status(state, i);
-    ((s == HALTED) | (s == DROPPED)) & bare(state, i)
-}
-
-// `fit` tells whether the sides fit, their parent left aside.
+// `fit` tells whether the sides fit, their parent left aside. Those of a node that does not run are dropped.
 fn pair_fits(join: Join, left: usize, right: usize, state: &[u8], i: usize, fit: &[bool]) -> bool
     requires state_len { (length state.now ≡ state_size) × (i < most_nodes) × (left < most_nodes) × (right < most_nodes) }
     requires most_nodes_in_bounds { most_nodes ≤ length fit.now }
@@ -134,9 +118,9 @@ fn pair_fits(join: Join, left: usize, right: usize, state: &[u8], i: usize, fit:
         return false;
     }
     if s == RUNNING {
-        return sides_fit(join, true, l, r) & fit[left] & fit[right];
+        return running_sides_fit(join, l, r) & fit[left] & fit[right];
     }
-    is_status(join, s) & sides_fit(join, false, l, r) & fit[left] & fit[right]
+    is_status(join, s) & (l == DROPPED) & (r == DROPPED) & fit[left] & fit[right]
 }
 
 // Node i, whose `count` steps begin with number `first`, with `fit` known of every node after it.
@@ -155,32 +139,20 @@ fn node_fits(
         → get_or fit.now k false ≡ fits_alone (tree_at policy.now k) (cells state.now) }
     ensures { result ≡ fits_alone (tree_at policy.now i) (cells state.now) }
 {
-    let kind = view_kind(policy, i);
-    match kind {
+    match view_kind(policy, i) {
         Kind::Leaf => leaf_fits(policy, first, count, view_start(policy, i), state, i),
-        Kind::Trivial => trivial_fits(state, i),
-        Kind::Unsatisfiable => unsatisfiable_fits(state, i),
+        // by rule 4 there is no unknown node; the tree would have a trivial one
+        Kind::Trivial | Kind::Unknown => constant_fits(ENDED, state, i),
+        Kind::Unsatisfiable => constant_fits(HALTED, state, i),
         Kind::Pair(_, join) => {
-            let left = view_left(policy, i) as usize;
-            let right = view_right(policy, i) as usize;
+            let left = usize::from(view_left(policy, i));
+            let right = usize::from(view_right(policy, i));
             pair_fits(join, left, right, state, i, fit)
         }
-        // by rule 4 there is none; the tree would have a trivial node
-        Kind::Unknown => trivial_fits(state, i),
     }
 }
 
 // ---- the state
-
-// What a leaf adds to the count of running leaves.
-fn one_if_running(status: u8) -> u64
-    ensures { result ≡ one (is_running (status_of status)) }
-{
-    if status == RUNNING {
-        return 1;
-    }
-    0
-}
 
 // The nodes, and the count of those that are running leaves. By rule 4 only a leaf counts steps, so each node's count tells whether it is one, and moves
 // back to where its own steps begin.
@@ -193,14 +165,12 @@ fn tree_fits(policy: &[u8], n: usize, m: usize, state: &[u8]) -> bool
     let mut fit = [false; MOST_NODES];
     let mut first = m;
     let mut leaves = 0;
-    let mut i = n;
-    while 0 < i {
-        i -= 1;
-        let count = view_count(policy, i) as usize;
+    for i in (0..n).rev() {
+        let count = usize::from(view_count(policy, i));
         first -= count;
         fit[i] = node_fits(policy, i, first, count, state, &fit);
         if count > 0 {
-            leaves += one_if_running(saved_status(state, i));
+            leaves += u64::from(saved_status(state, i) == RUNNING);
         }
     }
     fit[0] & (saved_status(state, 0) != DROPPED) & is_ahead(state, leaves)
@@ -211,14 +181,7 @@ fn zeros_kept(state: &[u8], n: usize) -> bool
     requires { (length state.now ≡ state_size) × (n ≤ most_nodes) }
     ensures { result ≡ zeros_up_to (cells state.now) n }
 {
-    let mut i = n;
-    while 0 < i {
-        i -= 1;
-        if saved_zeros(state, i) != 0 {
-            return false;
-        }
-    }
-    true
+    (0..n).all(|i| saved_zeros(state, i) == 0)
 }
 
 pub fn fits(policy: &[u8], n: usize, m: usize, state: &[u8]) -> bool

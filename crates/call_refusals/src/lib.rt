@@ -12,6 +12,7 @@ use turn_state::{STATE_SIZE, is_halted, saved_status};
 use turn_told::EVENT_ROOM;
 
 // 11: "state buffer is not 248 bytes, or event buffer is under 512", and by request 04: "Refusal 11 now means 256 bytes"
+#[tactic(auto, unfolding(spec_turns::specs::Entries::broken11))]
 pub fn broken11(state: &[u8], events: &[u8]) -> bool
     ensures { result ≡ broken11 state.now events.now }
 {
@@ -19,6 +20,7 @@ pub fn broken11(state: &[u8], events: &[u8]) -> bool
 }
 
 // 12: "the state doesn't fit the policy"
+#[tactic(auto, unfolding(spec_turns::specs::Entries::broken12))]
 pub fn broken12(policy: &[u8], state: &[u8]) -> bool
     requires { Passed policy.now × (length state.now ≡ state_size) }
     ensures { result ≡ broken12 policy.now state.now }
@@ -27,6 +29,7 @@ pub fn broken12(policy: &[u8], state: &[u8]) -> bool
 }
 
 // 14: "the root has halted"
+#[tactic(auto, unfolding(spec_turns::specs::Entries::broken14))]
 pub fn broken14(state: &[u8]) -> bool
     requires { length state.now ≡ state_size }
     ensures { result ≡ broken14 state.now }

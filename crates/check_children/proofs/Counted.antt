@@ -5,53 +5,82 @@ use native.Mathlib.Omega.{arith}
 use mathlib.Core.Path.{◌≡◌, refl, sym, ap, ap₂, ◌∙◌, subst}
 use mathlib.Core.Bool.{Bool, true, false, ◌&&◌, ◌||◌, not}
 use mathlib.Core.List.{List, [], ◌∷◌}
-use lib.Dec.{eqb, ltb, eqb-suc-zero}
-use lib.ListN.{length, get_or, set, length-set}
-use lib.Seq.{get_or-set_same, get_or-set_other}
-use borrow.Author.Tests.{eqb-true, eqb-false, eq-eqb, ne_eqb}
-use types.Run.{OneOf, miss}
-use denote.Enum.Declared.{tag_of}
+use lib.Dec.{T, eqb, ltb, ltb→lt, eqb-suc-zero}
+use Rattle.actions.proofs.Tests.{of-yes, and_left, and_right}
+use lib.ListN.{length, get_or, take, drop, set, length-set}
+use Rattle.std.specs.List.{list_all}
+use Rattle.std.specs.Prelude.{slice_range}
+use lib.Seq.{drop-cons, get_or-set_same, get_or-set_other}
+use borrow.Author.Tests.{eqb-true, eqb-false}
 use Rattle.spec_policy.specs.Bytes.{Bytes}
 use Rattle.spec_policy.specs.Lists.{listed, every, every_at, one, occurs}
 use Rattle.spec_policy.specs.Records.{Node, node_count, node_at, node_place, nodes}
 use Rattle.spec_policy.specs.Tree.{NodeKind, aLeaf, aTrivial, an_unsatisfiable, aPair, no_node, node_kind}
-use Rattle.spec_policy.proofs.ListLaws.{listed-rest, listed-over, every_rest, every_at-rest, every_at-over, one-most}
+use Rattle.spec_policy.proofs.ListLaws.{listed-rest, listed-over, every_at-rest, every_at-over, one-most}
 use Rattle.spec_check.specs.Children.{later, children, one_parent, broken5}
 use Rattle.spec_check.proofs.Kept.{broken5-is}
 use Rattle.spec_check.proofs.Numbers.{kids, kids-cons, kids-pair}
-use Rattle.file_records.specs.Kinds.{way_of, join_of, kind_of}
+use Rattle.file_records.specs.Kinds.{kind_of}
 use Rattle.file_records.specs.declared.Way.{Way}
 use Rattle.file_records.specs.declared.Join.{Join}
 use Rattle.file_records.specs.declared.Kind.{Kind}
-use Rattle.file_records.specs.contracts.Kind.{the_type}
 use Rattle.file_records.specs.declared.Kind.TheVariants.{Leaf, Trivial, Unsatisfiable, Pair, Unknown}
 use Rattle.check_layout.specs.Frame.{Framed}
 use Rattle.check_layout.proofs.Frame.{node-list}
 
 -- ---- one node
 
+-- its children as the code has read them
+pub pair-read : (x : Node) {q : Kind} {w : Way} {j : Join} {l r : ℕ} → q ≡ Pair w j → kind_of q ≡ node_kind x.kind → l ≡ x.left → r ≡ x.right
+    → l ∷ r ∷ [] ≡ children (x ∷ [])
+unfolding children kind_of
+pair-read x told e el er = rw (el, er) (let k = sym e ∙ ap kind_of told in rw (k, children) refl)
+
+pub none-read : (x : Node) (q : Kind) → ((w : Way) (j : Join) → q ≡ Pair w j → ⊥) → kind_of q ≡ node_kind x.kind → [] ≡ children (x ∷ [])
+unfolding children kind_of
+none-read x Leaf d e = rw (sym e, children) refl
+none-read x Trivial d e = rw (sym e, children) refl
+none-read x Unsatisfiable d e = rw (sym e, children) refl
+none-read x Unknown d e = rw (sym e, children) refl
+none-read x (Pair w j) d e = absurd (d w j refl)
+
 module _ (n i : ℕ) (x : Node) where
-  -- a pair, its kind and its children as the code has read them
-  module _ {q : Kind} {w : Way} {j : Join} {l r : ℕ} (told : q ≡ Pair w j) (e : kind_of q ≡ node_kind x.kind) (el : l ≡ x.left) (er : r ≡ x.right) where
-    is-pair : node_kind x.kind ≡ aPair (way_of w) (join_of j)
-    unfolding kind_of
-    is-pair = sym e ∙ ap kind_of told
+  not-none : {l r : ℕ} {xs : List ℕ} → xs ≡ [] → l ∷ r ∷ [] ≡ xs → ⊥
+  not-none e p = cc
 
-    pub later-pair : later n i x ≡ (ltb i l && ltb l n && ltb i r && ltb r n)
-    unfolding later
-    later-pair = rw (el, er, is-pair, later)
+  pub later-pair : {l r : ℕ} → l ∷ r ∷ [] ≡ children (x ∷ []) → later n i x ≡ (ltb i l && ltb l n && ltb i r && ltb r n)
+  unfolding later children
+  later-pair {l} {r} = go (node_kind x.kind) refl
+    where
+      go : (k : NodeKind) → node_kind x.kind ≡ k → l ∷ r ∷ [] ≡ children (x ∷ []) → later n i x ≡ (ltb i l && ltb l n && ltb i r && ltb r n)
+      go aLeaf e p = absurd (not-none (rw (e, children) refl) p)
+      go aTrivial e p = absurd (not-none (rw (e, children) refl) p)
+      go an_unsatisfiable e p = absurd (not-none (rw (e, children) refl) p)
+      go no_node e p = absurd (not-none (rw (e, children) refl) p)
+      go (aPair w j) e p =
+          let both : l ∷ r ∷ [] ≡ x.left ∷ x.right ∷ [] = p ∙ rw (e, children) refl in
+          let el : l ≡ x.left = cc in
+          let er : r ≡ x.right = cc in
+          rw (el, er, e, later)
 
-    pub kids-both : (k : ℕ) → kids k x ≡ one (eqb l k) + one (eqb r k)
-    kids-both k = rw (el, er) (kids-pair k x (way_of w) (join_of j) is-pair)
+  pub later-none : [] ≡ children (x ∷ []) → later n i x ≡ true
+  unfolding later children
+  later-none = go (node_kind x.kind) refl
+    where
+      go : (k : NodeKind) → node_kind x.kind ≡ k → [] ≡ children (x ∷ []) → later n i x ≡ true
+      go aLeaf e p = rw (e, later)
+      go aTrivial e p = rw (e, later)
+      go an_unsatisfiable e p = rw (e, later)
+      go no_node e p = rw (e, later)
+      go (aPair w j) e p = absurd (not-none {l = x.left} {r = x.right} (sym p) (rw (e, children) refl))
 
-  -- the code's last arm takes every kind but a pair
-  pub no-pair : (q : Kind) → OneOf (0 ∷ 1 ∷ 2 ∷ 4 ∷ []) (tag_of the_type q) → kind_of q ≡ node_kind x.kind → (later n i x ≡ true) × ((k : ℕ) → kids k x ≡ 0)
-  unfolding later children kind_of kids occurs
-  no-pair Leaf o e = (rw (sym e, later), λ k. rw (sym e, children))
-  no-pair Trivial o e = (rw (sym e, later), λ k. rw (sym e, children))
-  no-pair Unsatisfiable o e = (rw (sym e, later), λ k. rw (sym e, children))
-  no-pair Unknown o e = (rw (sym e, later), λ k. rw (sym e, children))
-  no-pair (Pair w j) o e = absurd (miss (0 ∷ 1 ∷ 2 ∷ 4 ∷ []) 3 tt o)
+  -- both children are below n where the test has passed
+  pub both-below : {l r : ℕ} → l ∷ r ∷ [] ≡ children (x ∷ []) → true ≡ later n i x → (l < n) × (r < n)
+  both-below {l} {r} p t =
+      let u : T (ltb i l && ltb l n && ltb i r && ltb r n) = of-yes _ (sym (later-pair p) ∙ sym t) in (
+        ltb→lt l n (and_right (ltb i l) (ltb l n) (and_left (ltb i l && ltb l n) (ltb i r) (and_left (ltb i l && ltb l n && ltb i r) (ltb r n) u))),
+        ltb→lt r n (and_right (ltb i l && ltb l n && ltb i r) (ltb r n) u),
+      )
 
 -- a node has at most two children
 pub at_most_two : (k : ℕ) (x : Node) → kids k x ≤ 2
@@ -134,15 +163,15 @@ module _ (f : ℕ → Node) (n : ℕ) where
 abbrev pub once : List ℕ → ℕ → ℕ → Bool
 once count i n = every (λ k. eqb (get_or count k 0) 1) (listed (λ k. k) i (n - i))
 
-module _ (count : List ℕ) (i n : ℕ) (h : i < n) where
-  once-first : once count i n ≡ (eqb (get_or count i 0) 1 && once count (i + 1) n)
-  once-first = every_rest (λ k. eqb (get_or count k 0) 1) (λ k. k) i n h
+all-listed : (p : ℕ → Bool) (xs : List ℕ) (i m : ℕ) → i + m ≤ length xs → list_all p (take m (drop i xs)) ≡ every (λ k. p (get_or xs k 0)) (listed (λ k. k) i m)
+unfolding every listed
+all-listed p xs i zero h = refl
+all-listed p xs i (suc m) h =
+    ap (λ (ys : List ℕ). list_all p (take (suc m) ys)) (drop-cons xs i 0 (omega arith))
+    ∙ ap (λ (b : Bool). p (get_or xs i 0) && b) (all-listed p xs (suc i) m (omega arith))
 
-  pub once-next : get_or count i 0 ≡ 1 → once count i n ≡ once count (i + 1) n
-  once-next e = once-first ∙ ap (λ (b : Bool). b && once count (i + 1) n) (eq-eqb (get_or count i 0) 1 e)
-
-  pub once-no : (get_or count i 0 ≡ 1 → ⊥) → once count i n ≡ false
-  once-no d = once-first ∙ ap (λ (b : Bool). b && once count (i + 1) n) (ne_eqb (get_or count i 0) 1 d)
+pub once-all : (count : List ℕ) (n : ℕ) → 1 ≤ n → n ≤ length count → list_all (λ k. eqb k 1) (slice_range count 1 n) ≡ once count 1 n
+once-all count n h g = all-listed (λ k. eqb k 1) count 1 (n - 1) (omega arith)
 
 -- ---- the rule by the two passes
 

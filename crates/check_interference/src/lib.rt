@@ -2,7 +2,6 @@
 #![tactic(auto)]
 
 ghost use Rattle.std.specs.Prelude.{◌≡◌, ◌&&◌, ◌+◌, ◌<◌, length, get_or};
-ghost use Rattle.actions.specs.Sets.{union, meets};
 ghost use Rattle.spec_policy.specs.Records.{most_nodes};
 ghost use Rattle.spec_policy.specs.Tree.{regulated};
 ghost use Rattle.spec_check.specs.Interference.{leaf_effects, effects, crossed, wrong9};
@@ -13,7 +12,8 @@ ghost use Rattle.check_leaves.specs.Leaves.{LeafValues};
 ghost use Rattle.check_interference.specs.Sets.{Treed, RegulatedFrom, EffectsFrom, is_parallel, clash};
 
 use actions::ActionSet;
-use faults::{Spot, on_record};
+use check_layout::counted::Counted;
+use faults::on_record;
 use file_records::{Kind, Way, node_kind, node_left, node_place, node_right, node_set};
 
 // A node's two sets, and whether it is a parallel pair whose sides interfere.
@@ -24,23 +24,12 @@ struct NodeSets {
     crossed: bool,
 }
 
-fn union_at(sets: &[u64], left: usize, right: usize) -> ActionSet
-    requires { (left < length sets.now) × (right < length sets.now) }
-    ensures { result.bits ≡ union (get_or sets.now left 0) (get_or sets.now right 0) }
+// The set in an entry.
+fn set_at(sets: &[u64], i: usize) -> ActionSet
+    requires { i < length sets.now }
+    ensures { result.bits ≡ get_or sets.now i 0 }
 {
-    let a = ActionSet { bits: sets[left] };
-    let b = ActionSet { bits: sets[right] };
-    a.union(b)
-}
-
-// What node i effects, node j regulates.
-fn meets_at(effects: &[u64], i: usize, regulated: &[u64], j: usize) -> bool
-    requires { (i < length effects.now) × (j < length regulated.now) }
-    ensures { result ≡ meets (get_or effects.now i 0) (get_or regulated.now j 0) }
-{
-    let a = ActionSet { bits: effects[i] };
-    let b = ActionSet { bits: regulated[j] };
-    a.meets(b)
+    ActionSet { bits: sets[i] }
 }
 
 // The sides of a pair interfere. Only parallel sides do.
@@ -49,42 +38,40 @@ fn interfere(way: Way, left: usize, right: usize, regulated: &[u64], effects: &[
     ensures { result ≡ (is_parallel (way_of way) && clash regulated.now effects.now left right) }
 {
     match way {
-        Way::Parallel => meets_at(effects, left, regulated, right)
-            || meets_at(effects, right, regulated, left),
+        Way::Parallel => {
+            set_at(effects, left).meets(set_at(regulated, right))
+                || set_at(effects, right).meets(set_at(regulated, left))
+        }
         Way::Sequential => false,
     }
 }
 
 // The sets of node i, and rule 9 of it, by one match of its kind. The walk through a leaf has found its effect set, which its entry holds; the children
 // of a pair come after it, and have their sets.
-fn node_sets(policy: &[u8], n: usize, m: usize, i: usize, regs: &[u64], effs: &[u64]) -> NodeSets
-    requires treed { Treed policy.now n m }
-    requires i_lt_n { i < n }
-    requires leaf_values { LeafValues leaf_effects policy.now (i + 1) effs.now }
-    requires regulated_from { RegulatedFrom policy.now (i + 1) n regs.now }
-    requires effects_from { EffectsFrom policy.now (i + 1) n effs.now }
-    ensures bits_value { result.regulated.bits ≡ regulated (tree_at policy.now i) }
-    ensures bits_value_2 { result.effects.bits ≡ effects (tree_at policy.now i) }
-    ensures crossed_value { result.crossed ≡ crossed (tree_at policy.now i) }
+fn node_sets(file: Counted, i: usize, regs: &[u64], effs: &[u64]) -> NodeSets
+    requires treed { Treed file.policy.now file.n file.m }
+    requires i_lt_n { i < file.n }
+    requires leaf_values { LeafValues leaf_effects file.policy.now (i + 1) effs.now }
+    requires regulated_from { RegulatedFrom file.policy.now (i + 1) file.n regs.now }
+    requires effects_from { EffectsFrom file.policy.now (i + 1) file.n effs.now }
+    ensures bits_value { result.regulated.bits ≡ regulated (tree_at file.entry.policy.now i) }
+    ensures bits_value_2 { result.effects.bits ≡ effects (tree_at file.entry.policy.now i) }
+    ensures crossed_value { result.crossed ≡ crossed (tree_at file.entry.policy.now i) }
 {
     let place = node_place(i);
-    let kind = node_kind(policy, place);
-    match kind {
-        Kind::Leaf => {
-            NodeSets {
-                regulated: node_set(policy, place),
-                effects: ActionSet { bits: effs[i] },
-                crossed: false,
-            }
-        }
+    match node_kind(file.policy, place) {
+        Kind::Leaf => NodeSets {
+            regulated: node_set(file.policy, place),
+            effects: set_at(effs, i),
+            crossed: false,
+        },
         Kind::Pair(way, _) => {
-            let left = node_left(policy, place) as usize;
-            let right = node_right(policy, place) as usize;
-            let crossed = interfere(way, left, right, regs, effs);
+            let left = usize::from(node_left(file.policy, place));
+            let right = usize::from(node_right(file.policy, place));
             NodeSets {
-                regulated: union_at(regs, left, right),
-                effects: union_at(effs, left, right),
-                crossed,
+                regulated: set_at(regs, left).union(set_at(regs, right)),
+                effects: set_at(effs, left).union(set_at(effs, right)),
+                crossed: interfere(way, left, right, regs, effs),
             }
         }
         _ => NodeSets {
@@ -97,19 +84,17 @@ fn node_sets(policy: &[u8], n: usize, m: usize, i: usize, regs: &[u64], effs: &[
 
 // The first node whose sides interfere: the nodes go down, so the last that is found is the first. Before, each leaf's entry in `effects` has its effect
 // set; after, every node's entries have its two sets.
-pub fn wrong9(policy: &[u8], n: usize, m: usize, regulated: &mut [u64], effects: &mut [u64]) -> Spot
-    requires treed { Treed policy.now n m }
-    requires leaf_values { LeafValues leaf_effects policy.now n effects.old }
+pub fn wrong9(file: Counted, regulated: &mut [u64], effects: &mut [u64]) -> Option<u16>
+    requires treed { Treed file.policy.now file.n file.m }
+    requires leaf_values { LeafValues leaf_effects file.policy.now file.n effects.old }
     requires regulated_len { length regulated.old ≡ most_nodes }
-    ensures result_value { spot_of result ≡ wrong9 policy.now }
-    ensures regulated_from { RegulatedFrom policy.now 0 n regulated.new }
-    ensures effects_from { EffectsFrom policy.now 0 n effects.new }
+    ensures result_value { spot_of result ≡ wrong9 file.entry.policy.now }
+    ensures regulated_from { RegulatedFrom file.entry.policy.now 0 file.entry.n regulated.new }
+    ensures effects_from { EffectsFrom file.entry.policy.now 0 file.entry.n effects.new }
 {
-    let mut found = Spot::Nowhere;
-    let mut i = n;
-    while i > 0 {
-        i -= 1;
-        let sets = node_sets(policy, n, m, i, regulated, effects);
+    let mut found = None;
+    for i in (0..file.n).rev() {
+        let sets = node_sets(file, i, regulated, effects);
         regulated[i] = sets.regulated.bits;
         effects[i] = sets.effects.bits;
         if sets.crossed {

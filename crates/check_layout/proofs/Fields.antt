@@ -7,10 +7,14 @@ use mathlib.Core.Path.{◌≡◌, refl, sym, ap, ap₂, ◌∙◌}
 use mathlib.Core.Bool.{Bool, true, false, ◌&&◌, ◌||◌, not}
 use lib.Dec.{eqb, leb}
 use lib.ListN.{length}
+use Rattle.std.specs.Prelude.{Some}
+use Rattle.std.specs.Bool.{then_some}
+use Rattle.file_records.specs.declared.Operand.TheVariants.{Amount}
+use Rattle.file_records.specs.declared.Step.TheVariants.{Spend}
 use Rattle.spec_policy.specs.Bytes.{Bytes, number}
 use Rattle.spec_policy.specs.Records.{Node, StepRecord, length_field, node_count, step_count, step_record_at, node_place, step_place}
 use Rattle.spec_policy.specs.Tree.{NodeKind, node_kind}
-use Rattle.spec_check.specs.Layout.{broken1, broken3, node_fits, no_operand, step_fits}
+use Rattle.spec_check.specs.Layout.{broken1, broken3, node_fits, step_fits}
 use Rattle.spec_policy.proofs.NumberLaws.{number-join}
 
 pub front-short : (file : Bytes) → length file < 6 → true ≡ broken1 file
@@ -38,11 +42,11 @@ node-read x k l r c s t p q u v w y = λ i. node_fits (p i) (node_of x (q i) (u 
 abbrev pub step_record_of : (kind action first second operand : ℕ) → StepRecord
 step_record_of k a f s o = record { kind = k; action = a; first = f; second = s; operand = o }
 
-pub read_step : (file : Bytes) (at k a f s o : ℕ)
+pub record-read : (file : Bytes) (at k a f s o : ℕ)
     → k ≡ number file at 1 → a ≡ number file (at + 1) 1 → f ≡ number file (at + 2) 1 → s ≡ number file (at + 3) 1 → o ≡ number file (at + 4) 8
     → step_record_of k a f s o ≡ step_record_at file at
 unfolding step_record_at
-read_step file at k a f s o p q u v w = λ i. step_record_of (p i) (q i) (u i) (v i) (w i)
+record-read file at k a f s o p q u v w = λ i. step_record_of (p i) (q i) (u i) (v i) (w i)
 
 -- no step has kind 0, or a kind above 8
 pub no-step : (k a f s o : ℕ) → (k ≡ 1 → ⊥) → (k ≡ 2 → ⊥) → (k ≡ 3 → ⊥) → (k ≡ 4 → ⊥) → (k ≡ 5 → ⊥) → (k ≡ 6 → ⊥) → (k ≡ 7 → ⊥) → (k ≡ 8 → ⊥)
@@ -70,20 +74,26 @@ halves zero (suc low) = not-zero (suc low) (omega arith) ∙ sym (not-zero (0 * 
 halves (suc high) low =
     ap (λ (b : Bool). b && eqb low 0) (not-zero (suc high) (omega arith)) ∙ sym (not-zero (suc high * 4294967296 + low) (omega arith))
 
-pub high-alone : (high low : ℕ) → low < 4294967296 → eqb high 0 ≡ leb (high * 4294967296 + low) 4294967295
+high-alone : (high low : ℕ) → low < 4294967296 → eqb high 0 ≡ leb (high * 4294967296 + low) 4294967295
 high-alone zero low h = sym (le-leb (0 * 4294967296 + low) 4294967295 (omega arith))
 high-alone (suc high) low h = not-zero (suc high) (omega arith) ∙ sym (lt-leb (suc high * 4294967296 + low) 4294967295 (omega arith))
 
 module _ (file : Bytes) (at high low : ℕ) (e : high ≡ number file (at + 4) 4) (f : low ≡ number file (at + 8) 4) where
-  pub both : at + 12 ≤ length file → high * 4294967296 + low ≡ (step_record_at file at).operand
-  unfolding step_record_at
+  pub both : at + 12 ≤ length file → high * 4294967296 + low ≡ number file (at + 4) 8
   both h =
       let z : at + 8 ≡ at + 4 + 4 = omega arith in
       ap₂ (λ (x y : ℕ). x * 4294967296 + y) e (f ∙ ap (λ (i : ℕ). number file i 4) z) ∙ sym (number-join file (at + 4) 4 4 (omega arith))
 
-  pub no-operand-read : at + 12 ≤ length file → (eqb high 0 && eqb low 0) ≡ no_operand (step_record_at file at)
-  unfolding no_operand
-  no-operand-read h = halves high low ∙ ap (λ (x : ℕ). eqb x 0) (both h)
-
-  pub no-high-read : low < 4294967296 → at + 12 ≤ length file → eqb high 0 ≡ leb (step_record_at file at).operand 4_294_967_295
-  no-high-read l h = high-alone high low l ∙ ap (λ (x : ℕ). leb x 4294967295) (both h)
+-- a spend's operand is its low half where its high one is zero
+pub amount-read : (allowed : Bool) (high low first second : ℕ) → low < 4294967296
+    → then_some (allowed && eqb high 0) (Spend (Amount low) first second)
+    ≡ then_some (allowed && leb (high * 4294967296 + low) 4294967295) (Spend (Amount (high * 4294967296 + low)) first second)
+amount-read false high low first second h = refl
+amount-read true zero low first second h =
+    let z : low ≡ 0 * 4294967296 + low = omega arith in
+    ap (λ (n : ℕ). Some (Spend (Amount n) first second)) z
+    ∙ ap (λ (b : Bool). then_some b (Spend (Amount (0 * 4294967296 + low)) first second)) (high-alone zero low h)
+amount-read true (suc high) low first second h =
+    let none : eqb (suc high) 0 ≡ false = not-zero (suc high) (omega arith) in
+    ap (λ (b : Bool). then_some b (Spend (Amount low) first second)) none
+    ∙ ap (λ (b : Bool). then_some b (Spend (Amount (suc high * 4294967296 + low)) first second)) (sym none ∙ high-alone (suc high) low h)

@@ -2,14 +2,19 @@
 use Prim.Native.Nat.{ℕ, zero, suc, ◌+◌, ◌*◌}
 use native.Mathlib.Omega.{arith}
 use mathlib.Core.Path.{◌≡◌, refl, sym, ap, ◌∙◌}
-use mathlib.Core.Bool.{Bool, true, ◌&&◌}
+use mathlib.Core.Bool.{Bool, true, false, ◌&&◌}
 use mathlib.Core.List.{◌∷◌}
 use Rattle.actions.proofs.Tests.{and_assoc}
 use Rattle.spec_policy.specs.Bytes.{Bytes}
 use Rattle.spec_policy.specs.Lists.{listed, every}
 use Rattle.spec_policy.specs.Records.{StepRecord, step_record_at}
 use Rattle.spec_check.specs.Layout.{step_fits}
-use Rattle.check_layout.specs.Fits.{steps_fit}
+use Rattle.check_layout.specs.Fits.{steps_fit, fitting_step}
+use Rattle.file_records.specs.declared.Step.{Step}
+use Rattle.file_records.specs.Kinds.{step_value}
+use Rattle.spec_policy.specs.Steps.{step_of}
+use Rattle.std.specs.Bool.{then_some}
+use Rattle.std.specs.Prelude.{Some, None}
 
 from_one : (f : ℕ → StepRecord) (i n : ℕ) → listed f (suc i) n ≡ listed (λ k. f (suc k)) i n
 unfolding listed
@@ -40,3 +45,21 @@ module _ (file : Bytes) where
       ap (steps_fit file at) w ∙ first-row at (a + b) ∙ ap (λ (x : Bool). step_fits (step_record_at file at) && x) (records-split (at + 12) a b)
       ∙ and_assoc (step_fits (step_record_at file at)) (steps_fit file (at + 12) a) (steps_fit file (at + 12 + 12 * a) b)
       ∙ λ j. sym (first-row at a) j && steps_fit file (z j) b
+
+-- ---- the step of a record that fits
+
+then-true : {A : Type 0} (b : Bool) (x y : A) → then_some b x ≡ Some y → (b ≡ true) × (y ≡ x)
+then-true true x y e = (refl, cc)
+then-true false x y e = absurd (let h : None ≡ Some y = e in cc)
+
+then-false : {A : Type 0} (b : Bool) (x : A) → then_some b x ≡ None → b ≡ false
+then-false true x e = absurd (let h : Some x ≡ None = e in cc)
+then-false false x e = refl
+
+pub step-given : (r : StepRecord) (s : Step) → fitting_step r ≡ Some s → (step_fits r ≡ true) × (s ≡ step_value (step_of r))
+unfolding fitting_step
+step-given r s e = then-true _ _ s e
+
+pub no-step-given : (r : StepRecord) → fitting_step r ≡ None → step_fits r ≡ false
+unfolding fitting_step
+no-step-given r e = then-false _ _ e

@@ -1,9 +1,11 @@
 -- What the walk through a leaf finds.
-use Rattle.std.specs.Prelude.{◌≡◌, Bool, true, false, List}
+use Rattle.std.specs.Prelude.{◌≡◌, Bool, true, false, List, Result, Ok, Err}
 use Rattle.actions.specs.Sets.{ActionSet, EMPTY}
 use Rattle.check_modes.specs.Table.{reaching}
 use Rattle.check_modes.specs.Marks.{Agrees}
 use Rattle.check_steps.specs.declared.Walk.{Walk}
+use Rattle.faults.specs.declared.Refusal.{Refusal}
+use Rattle.faults.specs.declared.Refusal.TheVariants as refusals
 use Rattle.spec_policy.specs.Steps.{Step}
 use Rattle.spec_check.specs.Targets.{targets_fit}
 use Rattle.spec_check.specs.Modes.{modes_fit}
@@ -21,15 +23,15 @@ pub record LeafKept (w : Walked) (r : ActionSet) (steps-fit : Bool) (code : List
   pub effects : w.effects.bits ≡ leaf_effects r code
   pub inserts : w.inserts ≡ ins_count code
 
--- The walk ends at a step that breaks rule 4 or rule 6, and tells one of the two: the rest of what it gives then says nothing of the leaf.
-pub record LeafFound (w : Walked) (r : ActionSet) (steps-fit : Bool) (code : List Step) : Type 0 where
-  pub fields-broken : w.fields ≡ false → steps-fit ≡ false
-  pub targets-broken : w.fields ≡ true → w.targets ≡ false → targets_fit r code ≡ false
-  pub kept : w.fields ≡ true → w.targets ≡ true → LeafKept w r steps-fit code
+-- The walk ends at a step that breaks rule 4 or rule 6, and tells one of the two.
+abbrev pub LeafFound : Result Walked Refusal → ActionSet → Bool → List Step → Type 0
+LeafFound (Ok w) r steps-fit code = LeafKept w r steps-fit code
+LeafFound (Err refusals.Fields) r steps-fit code = steps-fit ≡ false
+LeafFound (Err refusals.Targets) r steps-fit code = targets_fit r code ≡ false
+LeafFound (Err _) r steps-fit code = ⊥
 
 -- a walk that has found nothing yet: offset 0 is reached idle
 pub record Begun (w : Walk) : Type 0 where
-  pub targets : w.targets ≡ true
   pub modes : w.modes ≡ true
   pub taken : w.taken ≡ true
   pub marks : Agrees w.marks (reaching 0 0)

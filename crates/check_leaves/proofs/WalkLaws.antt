@@ -19,7 +19,7 @@ use Rattle.spec_policy.specs.Tree.{aLeaf, aTrivial, an_unsatisfiable, aPair, no_
 use Rattle.spec_policy.proofs.NodeLaws.{first-none, first-over}
 use Rattle.file_records.specs.Code.{code_at}
 use Rattle.check_layout.specs.Frame.{Framed}
-use Rattle.check_layout.specs.Fits.{nodes_fit, steps_fit, rule_or4}
+use Rattle.check_layout.specs.Fits.{nodes_fit, steps_fit, kept_or4}
 use Rattle.check_layout.proofs.Frame.{all-records}
 use Rattle.check_layout.proofs.Rows.{records-none, records-split}
 use Rattle.spec_check.specs.Layout.{step_fits}
@@ -32,9 +32,36 @@ use Rattle.spec_check.proofs.Kept.{broken7-is, broken8-is}
 use Rattle.spec_check.proofs.Ahead.{in-or-out}
 use Rattle.spec_check.proofs.Numbers.{node-read}
 use Rattle.check_leaf.specs.declared.Walked.{Walked}
-use Rattle.check_leaf.specs.Leaf.{LeafFound}
-use Rattle.check_leaves.specs.Leaves.{node_passes, modes_of, inserts_in, NodeKept, NodeFound, LeafValues, lowest, LeavesFound}
+use Rattle.check_leaf.specs.Leaf.{LeafKept, LeafFound}
+use Rattle.faults.specs.declared.Refusal.{Refusal}
+use Rattle.faults.specs.declared.Refusal.TheVariants as refusals
+use Rattle.std.specs.Prelude.{Result, Ok, Err}
+use Rattle.check_leaves.specs.Leaves.{node_passes, modes_of, inserts_in, NodeKept, LeafValues, lowest, LeavesFound}
 use Rattle.check_leaves.proofs.LeafLaws.{counted, answer_of, passes-by, leaves_from, leaves-whole, leaves-over, steps-in, rest-here, code_is}
+
+-- no refusal is a pass
+err-not-ok : {e : Refusal} → let r : Result (Unit {0}) Refusal = Err e in r ≡ Ok tt → ⊥
+err-not-ok p = cc
+
+pub kept-passes : (b : Bool) → kept_or4 b ≡ Ok tt → b ≡ true
+unfolding kept_or4
+kept-passes true e = refl
+kept-passes false e = absurd (err-not-ok e)
+
+err-is : {a b : Refusal} → let r : Result (Unit {0}) Refusal = Err a in r ≡ Err b → a ≡ b
+err-is p = cc
+
+unkept : (b : Bool) (e : Refusal) → Err e ≡ kept_or4 b → (b ≡ false) × (e ≡ refusals.Fields)
+unfolding kept_or4
+unkept true e p = absurd (err-not-ok p)
+unkept false e p = (refl, err-is p)
+
+-- a walk that ends and does not tell rule 6 tells rule 4
+pub stopped : (r : ActionSet) (steps-fit : Bool) (code : List Step) (e : Refusal) → (e ≡ refusals.Targets → ⊥) → LeafFound (Err e) r steps-fit code
+    → (e ≡ refusals.Fields) × (steps-fit ≡ false)
+stopped r f code refusals.Fields a h = (refl, h)
+stopped r f code refusals.Targets a h = absurd (a refl)
+stopped r f code _ a h = absurd h
 
 -- ---- one node
 
@@ -42,24 +69,19 @@ module _ (file : Bytes) (at count : ℕ) (x : Node) (w : Walked) where
   abbrev code : List Step
   code = code_at file at count
 
-  pub leaf-found : (s : ActionSet) → aLeaf ≡ node_kind x.kind → s ≡ x.set → LeafFound w s (steps_fit file at count) code
-      → NodeFound w x (steps_fit file at count) code
-  unfolding answer_of modes_of inserts_in
-  leaf-found s k e f =
-      let found = subst (λ (r : ActionSet). LeafFound w r (steps_fit file at count) code) e f in
-      let six : node_passes targets_fit x code ≡ targets_fit x.set code = sym (passes-by targets_fit x code aLeaf k) in
-      record {
-        fields-broken = found.fields-broken;
-        targets-broken = λ g t. six ∙ found.targets-broken g t;
-        kept = λ g t. let kept = found.kept g t in record {
+  module _ (s : ActionSet) (k : aLeaf ≡ node_kind x.kind) (e : s ≡ x.set) where
+    pub leaf-kept : LeafKept w s (steps_fit file at count) code → NodeKept w x (steps_fit file at count) code
+    unfolding answer_of modes_of inserts_in
+    leaf-kept found =
+        let kept = subst (λ (r : ActionSet). LeafKept w r (steps_fit file at count) code) e found in
+        record {
           step_records = kept.step_records;
-          targets = six ∙ kept.targets;
+          targets = sym (passes-by targets_fit x code aLeaf k) ∙ kept.targets;
           modes = kept.modes ∙ passes-by modes_of x code aLeaf k;
           taken = kept.taken ∙ passes-by all_taken x code aLeaf k;
           effects = λ l. kept.effects;
           inserts = λ l. kept.inserts;
-        };
-      }
+        }
 
 -- any other node passes
 other-passes : (g : ActionSet → List Step → Bool) (x : Node) (ss : List Step) → (node_kind x.kind ≡ aLeaf → ⊥) → node_passes g x ss ≡ true
@@ -173,65 +195,63 @@ module _ {file : Bytes} {n m : ℕ} (f : Framed file n m) (fits : nodes_fit file
           inserts = held-over inserts_in file i ins s.inserts (λ l. apart (leaf-here l));
         }
 
+    -- it is a leaf, and the walk through it ends at a step that breaks rule 4, or rule 6
+    pub stops-at-4 : steps_fit file at count ≡ false → every step_fits (step_records file) ≡ false
+    stops-at-4 bad = records-rest ∙ ap (λ (b : Bool). b && steps_fit file (at + 12 * count) (m - first_step file (i + 1))) bad
+
+    pub stops-at-6 : (r : ActionSet) → r ≡ (node_at file place).set → aLeaf ≡ node_kind (node_at file place).kind → targets_fit r (code_at file at count) ≡ false
+        → every_leaf targets_fit (nodes_with_steps file) ≡ false
+    unfolding answer_of
+    stops-at-6 r e l bad =
+        let six : node_passes targets_fit (node_at file place) (code_at file at count) ≡ false =
+        sym (passes-by targets_fit (node_at file place) (code_at file at count) aLeaf l) ∙ ap (λ (q : ActionSet). targets_fit q (code_at file at count)) (sym e) ∙ bad in
+        s.sixes ∙ rest targets_fit ∙ ap (λ (b : Bool). b && leaves_from targets_fit file (i + 1)) six
+
     -- the walk through it has given w
-    module _ (w : Walked) (found : NodeFound w (node_at file place) (steps_fit file at count) (code_at file at count)) where
-      pub stops-at-4 : w.fields ≡ false → every step_fits (step_records file) ≡ false
-      stops-at-4 bad = records-rest ∙ ap (λ (b : Bool). b && steps_fit file (at + 12 * count) (m - first_step file (i + 1))) (found.fields-broken bad)
+    module _ (w : Walked) (kept : NodeKept w (node_at file place) (steps_fit file at count) (code_at file at count)) where
+      of-place : (g : ActionSet → List Step → ℕ)
+          → g (node_at file place).set (code_at file at count) ≡ g (get_or (nodes_with_steps file) i no_node_steps).node.set (get_or (nodes_with_steps file) i no_node_steps).steps
+      of-place g = let e = sym node-is in let c = code_is f fits all i place at count h p s.begins k in λ j. g (e j).set (c j)
 
-      pub stops-at-6 : w.fields ≡ true → w.targets ≡ false → every_leaf targets_fit (nodes_with_steps file) ≡ false
-      stops-at-6 good bad = s.sixes ∙ rest targets_fit ∙ ap (λ (b : Bool). b && leaves_from targets_fit file (i + 1)) (found.targets-broken good bad)
-
-      module _ (four : w.fields ≡ true) (six : w.targets ≡ true) where
-        kept : NodeKept w (node_at file place) (steps_fit file at count) (code_at file at count)
-        kept = found.kept four six
-
-        of-place : (g : ActionSet → List Step → ℕ)
-            → g (node_at file place).set (code_at file at count) ≡ g (get_or (nodes_with_steps file) i no_node_steps).node.set (get_or (nodes_with_steps file) i no_node_steps).steps
-        of-place g = let e = sym node-is in let c = code_is f fits all i place at count h p s.begins k in λ j. g (e j).set (c j)
-
-        pub walk-goes : Walking (i + 1) (at + 12 * count) (set effs i w.effects.bits) (set ins i w.inserts) (modes && w.modes) (taken && w.taken)
-        walk-goes = record {
-          below = omega arith;
-          begins = omega (arith, s.begins, next);
-          room = (length-set effs i w.effects.bits ∙ s.room.0, length-set ins i w.inserts ∙ s.room.1);
-          fours = records-rest ∙ ap (λ (b : Bool). b && steps_fit file (at + 12 * count) (m - first_step file (i + 1))) kept.step_records;
-          sixes = s.sixes ∙ rest targets_fit ∙ ap (λ (b : Bool). b && leaves_from targets_fit file (i + 1)) kept.targets;
-          sevens = s.sevens ∙ ap (λ (b : Bool). modes && b) (rest modes_of ∙ ap (λ (b : Bool). b && leaves_from modes_of file (i + 1)) (sym kept.modes))
-              ∙ and_assoc modes w.modes (leaves_from modes_of file (i + 1));
-          eights = s.eights ∙ ap (λ (b : Bool). taken && b) (rest all_taken ∙ ap (λ (b : Bool). b && leaves_from all_taken file (i + 1)) (sym kept.taken))
-              ∙ and_assoc taken w.taken (leaves_from all_taken file (i + 1));
-          effects = held_more leaf_effects file i w.effects.bits effs (omega (arith, f.nodes)) s.effects (λ l. kept.effects (leaf-here l) ∙ of-place leaf_effects);
-          inserts = held_more inserts_in file i w.inserts ins (omega (arith, f.nodes)) s.inserts (λ l. kept.inserts (leaf-here l) ∙ of-place inserts_in);
-        }
+      pub walk-goes : Walking (i + 1) (at + 12 * count) (set effs i w.effects.bits) (set ins i w.inserts) (modes && w.modes) (taken && w.taken)
+      walk-goes = record {
+        below = omega arith;
+        begins = omega (arith, s.begins, next);
+        room = (length-set effs i w.effects.bits ∙ s.room.0, length-set ins i w.inserts ∙ s.room.1);
+        fours = records-rest ∙ ap (λ (b : Bool). b && steps_fit file (at + 12 * count) (m - first_step file (i + 1))) kept.step_records;
+        sixes = s.sixes ∙ rest targets_fit ∙ ap (λ (b : Bool). b && leaves_from targets_fit file (i + 1)) kept.targets;
+        sevens = s.sevens ∙ ap (λ (b : Bool). modes && b) (rest modes_of ∙ ap (λ (b : Bool). b && leaves_from modes_of file (i + 1)) (sym kept.modes))
+            ∙ and_assoc modes w.modes (leaves_from modes_of file (i + 1));
+        eights = s.eights ∙ ap (λ (b : Bool). taken && b) (rest all_taken ∙ ap (λ (b : Bool). b && leaves_from all_taken file (i + 1)) (sym kept.taken))
+            ∙ and_assoc taken w.taken (leaves_from all_taken file (i + 1));
+        effects = held_more leaf_effects file i w.effects.bits effs (omega (arith, f.nodes)) s.effects (λ l. kept.effects (leaf-here l) ∙ of-place leaf_effects);
+        inserts = held_more inserts_in file i w.inserts ins (omega (arith, f.nodes)) s.inserts (λ l. kept.inserts (leaf-here l) ∙ of-place inserts_in);
+      }
 
   -- ---- the end
 
   module _ (effs ins : List ℕ) where
-    pub found-four : every step_fits (step_records file) ≡ false → LeavesFound file n 4 effs ins
+    pub found-four : every step_fits (step_records file) ≡ false → LeavesFound file n (Err refusals.Fields) effs ins
     unfolding lowest
     found-four bad = record {
       is = sym (ap (λ (b : Bool). lowest (not b) (not (every_leaf targets_fit (nodes_with_steps file))) (broken7 file) (broken8 file)) bad);
-      effects = λ e. absurd (omega arith);
-      inserts = λ e. absurd (omega arith);
+      effects = λ e. absurd (err-not-ok e);
+      inserts = λ e. absurd (err-not-ok e);
     }
 
-    -- a leaf breaks rule 6, and the step records are tested, those of the leaves after it too
-    pub found-six : (rule : ℕ) → rule ≡ rule_or4 (every step_fits (step_records file)) 6 → every_leaf targets_fit (nodes_with_steps file) ≡ false → LeavesFound file n rule effs ins
-    unfolding lowest rule_or4
-    found-six rule e bad =
-        record {
-          is = e ∙ six (every step_fits (step_records file)) ∙ sym (ap (λ (b : Bool). lowest (not (every step_fits (step_records file))) (not b) (broken7 file) (broken8 file)) bad);
-          effects = λ z. absurd (some (every step_fits (step_records file)) (sym e ∙ z));
-          inserts = λ z. absurd (some (every step_fits (step_records file)) (sym e ∙ z));
-        }
-      where
-        six : (b : Bool) → rule_or4 b 6 ≡ lowest (not b) true (broken7 file) (broken8 file)
-        six true = refl
-        six false = refl
+    pub found-unkept : (e : Refusal) → Err e ≡ kept_or4 (every step_fits (step_records file)) → LeavesFound file n (Err e) effs ins
+    found-unkept e p =
+        let u = unkept _ e p in
+        subst (λ (r : Refusal). LeavesFound file n (Err r) effs ins) (sym u.1) (found-four u.0)
 
-        some : (b : Bool) → rule_or4 b 6 ≡ 0 → ⊥
-        some true z = omega arith
-        some false z = omega arith
+    -- a leaf breaks rule 6, and the step records are kept, those of the leaves after it too
+    pub found-six : every step_fits (step_records file) ≡ true → every_leaf targets_fit (nodes_with_steps file) ≡ false → LeavesFound file n (Err refusals.Targets) effs ins
+    unfolding lowest
+    found-six good bad = record {
+      is = let g = sym good in let b = sym bad in λ j. lowest (not (g j)) (not (b j)) (broken7 file) (broken8 file);
+      effects = λ e. absurd (err-not-ok e);
+      inserts = λ e. absurd (err-not-ok e);
+    }
 
   module _ (i at : ℕ) (effs ins : List ℕ) (modes taken : Bool) (s : Walking i at effs ins modes taken) (h : n ≤ i) where
     over : node_count file ≤ i
@@ -256,15 +276,15 @@ module _ {file : Bytes} {n m : ℕ} (f : Framed file n m) (fits : nodes_fit file
         let a = four_is in let b = six-is in let c = seven_is ∙ ap not e in let d = eight_is ∙ ap not g in
         sym (λ j. lowest (not (a j)) (not (b j)) (c j) (d j))
 
-    pub found-seven : modes ≡ false → LeavesFound file n 7 effs ins
+    pub found-seven : modes ≡ false → LeavesFound file n (Err refusals.Modes) effs ins
     unfolding lowest
-    found-seven e = record { is = by false taken e refl; effects = λ z. absurd (omega arith); inserts = λ z. absurd (omega arith) }
+    found-seven e = record { is = by false taken e refl; effects = λ z. absurd (err-not-ok z); inserts = λ z. absurd (err-not-ok z) }
 
-    pub found-eight : modes ≡ true → taken ≡ false → LeavesFound file n 8 effs ins
+    pub found-eight : modes ≡ true → taken ≡ false → LeavesFound file n (Err refusals.Branches) effs ins
     unfolding lowest
-    found-eight e g = record { is = by true false e g; effects = λ z. absurd (omega arith); inserts = λ z. absurd (omega arith) }
+    found-eight e g = record { is = by true false e g; effects = λ z. absurd (err-not-ok z); inserts = λ z. absurd (err-not-ok z) }
 
-    pub found_none : modes ≡ true → taken ≡ true → LeavesFound file n 0 effs ins
+    pub found_none : modes ≡ true → taken ≡ true → LeavesFound file n (Ok tt) effs ins
     unfolding lowest
     found_none e g =
         let z : i ≡ n = omega (arith, s.below) in

@@ -1,6 +1,8 @@
 -- What is found of the leaves: of one node, and of all.
-use Rattle.std.specs.Prelude.{ℕ, ◌<◌, ◌≡◌, Bool, true, false, not, List, length, get_or}
+use Rattle.std.specs.Prelude.{ℕ, ◌<◌, ◌≡◌, Bool, true, false, not, List, length, get_or, Result, Ok, Err}
 use Rattle.actions.specs.Sets.{ActionSet}
+use Rattle.faults.specs.declared.Refusal.{Refusal}
+use Rattle.faults.specs.declared.Refusal.TheVariants as refusals
 use Rattle.spec_policy.specs.Bytes.{Bytes}
 use Rattle.spec_policy.specs.Lists.{every}
 use Rattle.spec_policy.specs.Records.{most_nodes, Node, step_records}
@@ -42,28 +44,22 @@ pub record NodeKept (w : Walked) (x : Node) (steps-fit : Bool) (code : List Step
   pub effects : node_kind x.kind ≡ aLeaf → w.effects.bits ≡ leaf_effects x.set code
   pub inserts : node_kind x.kind ≡ aLeaf → w.inserts ≡ inserts_in x.set code
 
--- of a node: rule 4 of its step records, or rule 6, is told broken, or both are kept
-pub record NodeFound (w : Walked) (x : Node) (steps-fit : Bool) (code : List Step) : Type 0 where
-  pub fields-broken : w.fields ≡ false → steps-fit ≡ false
-  pub targets-broken : w.fields ≡ true → w.targets ≡ false → node_passes targets_fit x code ≡ false
-  pub kept : w.fields ≡ true → w.targets ≡ true → NodeKept w x steps-fit code
-
 -- a list with room for every node, which holds f of each leaf before node i
 pub record LeafValues (f : ActionSet → List Step → ℕ) (file : Bytes) (i : ℕ) (xs : List ℕ) : Type 0 where
   pub room : length xs ≡ most_nodes
   pub at : (k : ℕ) → k < i → node_kind (get_or (nodes_with_steps file) k no_node_steps).node.kind ≡ aLeaf
       → get_or xs k 0 ≡ f (get_or (nodes_with_steps file) k no_node_steps).node.set (get_or (nodes_with_steps file) k no_node_steps).steps
 
--- the lowest of rules 4, 6, 7 and 8 that is broken, and 0 if none is
-unfoldable pub lowest : Bool → Bool → Bool → Bool → ℕ
-lowest true six seven eight = 4
-lowest false true seven eight = 6
-lowest false false true eight = 7
-lowest false false false true = 8
-lowest false false false false = 0
+-- the lowest of rules 4, 6, 7 and 8 that is broken, if one is
+unfoldable pub lowest : Bool → Bool → Bool → Bool → Result (Unit {0}) Refusal
+lowest true six seven eight = Err refusals.Fields
+lowest false true seven eight = Err refusals.Targets
+lowest false false true eight = Err refusals.Modes
+lowest false false false true = Err refusals.Branches
+lowest false false false false = Ok tt
 
 -- of all leaves: the lowest rule that one of them or a step record breaks, and where there is none, what is held of each
-pub record LeavesFound (file : Bytes) (n rule : ℕ) (effs ins : List ℕ) : Type 0 where
-  pub is : rule ≡ lowest (not (every step_fits (step_records file))) (not (every_leaf targets_fit (nodes_with_steps file))) (broken7 file) (broken8 file)
-  pub effects : rule ≡ 0 → LeafValues leaf_effects file n effs
-  pub inserts : rule ≡ 0 → LeafValues inserts_in file n ins
+pub record LeavesFound (file : Bytes) (n : ℕ) (found : Result (Unit {0}) Refusal) (effs ins : List ℕ) : Type 0 where
+  pub is : found ≡ lowest (not (every step_fits (step_records file))) (not (every_leaf targets_fit (nodes_with_steps file))) (broken7 file) (broken8 file)
+  pub effects : found ≡ Ok tt → LeafValues leaf_effects file n effs
+  pub inserts : found ≡ Ok tt → LeafValues inserts_in file n ins

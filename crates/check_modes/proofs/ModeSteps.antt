@@ -109,6 +109,9 @@ adds-nothing x m o l = refl
 
 -- ---- reached in one mode: that one is followed
 
+pub room-as : {e f : ℕ} (first second : ℕ) → f ≡ e → T (room_for (led_by e first second)) → T (room_for (led_by f first second))
+room-as first second q t = subst (λ (x : ℕ). T (room_for (led_by x first second))) (sym q) t
+
 pub led-as : {e f first second : ℕ} {seen : Marks} {r : Led} → e ≡ f → LedBy e first second seen r → LedBy f first second seen r
 led-as {first = first} {second} {seen} {r} q d = subst (λ (x : ℕ). LedBy x first second seen r) q d
 
@@ -228,10 +231,10 @@ module _ (s : Step) (kind first second : ℕ) (tells : (m : Mode) → Tells kind
   aside-by n q before after a = led-aside n before after (subst (λ (x : ℕ). Adds before after (led_by x first second)) q a)
 
   -- the entries as they were read
-  pub led-met : (o : ℕ) → o < 64 → eqb kind 1 ≡ false → {e₀ e₁ e₂ : ℕ} → e₀ ≡ entry_at kind 0 → e₁ ≡ entry_at kind 1 → e₂ ≡ entry_at kind 2 → (seen : Marks) (r : Led)
+  pub led-met : (o : ℕ) → o < 64 → {e₀ e₁ e₂ : ℕ} → e₀ ≡ entry_at kind 0 → e₁ ≡ entry_at kind 1 → e₂ ≡ entry_at kind 2 → (seen : Marks) (r : Led)
       → LedBy (followed e₀ e₁ e₂ (has seen.pending o) (has seen.closing o)) first second seen r → StepLed o s seen r
   unfolding once_at word mode_number followed
-  led-met o l n {e₀} {e₁} {e₂} q₀ q₁ q₂ seen r d = record { test = test; marks = marks; aside = aside p c refl refl }
+  led-met o l {e₀} {e₁} {e₂} q₀ q₁ q₂ seen r d = record { test = test; marks = marks; aside = aside p c refl refl }
     where
       i : Bool
       i = has seen.idle o || is_next s

@@ -4,15 +4,15 @@
 
 ghost use Rattle.std.specs.Prelude.{◌≡◌, List, ℕ, ◌≤◌, ◌<◌, T, eqb, ltb, length};
 ghost use Rattle.actions.specs.Sets.{has};
-ghost use Rattle.spec_policy.specs.Steps.{Step, next, ok, sup, ins, acase, spend, end, halt};
+ghost use Rattle.spec_policy.specs.Steps.{Step, next};
 ghost use Rattle.spec_check.specs.Modes.{Mark, stepped, mode_fits};
 ghost use Rattle.check_modes.specs.Table.{entry_at, reaching, may_stand, led_by};
-ghost use Rattle.check_modes.specs.Marks.{Agrees, Adds, Aside, room_for, followed, LedBy, StepLed, NextsAre, all_once};
+ghost use Rattle.check_modes.specs.Marks.{Agrees, Adds, Aside, room_for, LedBy, StepLed, NextsAre, all_once};
 ghost use Rattle.check_modes.specs.Marks.{only_if, ReachedHere, RowRoom, IsRow};
 ghost use Rattle.spec_policy.specs.Records.{most_leaf_steps};
 
 use actions::ActionSet;
-use file_records::{ACASE, END, HALT, INS, MOST_LEAF_STEPS, NEXT, OK, SPEND, SUP};
+use file_records::{MOST_LEAF_STEPS, NEXT};
 
 const IDLE: usize = 0;
 
@@ -87,18 +87,15 @@ fn reach(seen: Marks, mode: u8, o: usize) -> Marks
     match mode {
         0 => Marks {
             idle: seen.idle | only_bit(o),
-            pending: seen.pending,
-            closing: seen.closing,
+            ..seen
         },
         1 => Marks {
-            idle: seen.idle,
             pending: seen.pending | only_bit(o),
-            closing: seen.closing,
+            ..seen
         },
         2 => Marks {
-            idle: seen.idle,
-            pending: seen.pending,
             closing: seen.closing | only_bit(o),
+            ..seen
         },
         _ => seen,
     }
@@ -132,31 +129,30 @@ fn lead_in(e: u8, first: usize, second: usize, seen: Marks) -> Led
     }
 }
 
-// The entries are those of the step's kind in each mode. One mode is followed: that in which the step at o is reached, if there is one and no
-// other. Whether that is so of every step is asked at the end of the walk, of all at once (`each_once`).
-fn lead_by(
-    idle: u8,
-    pending: u8,
-    closing: u8,
-    o: usize,
-    first: usize,
-    second: usize,
-    seen: Marks,
-) -> Led
-    requires { (o < most_leaf_steps) × T (room_for (led_by idle first second))
-        × T (room_for (led_by pending first second)) × T (room_for (led_by closing first second)) }
-    ensures { LedBy (followed idle pending closing (has seen.pending o) (has seen.closing o)) first second seen result }
-{
-    if has_bit(seen.pending, o) {
-        return lead_in(pending, first, second, seen);
-    }
-    if has_bit(seen.closing, o) {
-        return lead_in(closing, first, second, seen);
-    }
-    lead_in(idle, first, second, seen)
+// A step as its kind's row and its two targets.
+#[derive(Clone, Copy)]
+pub struct Row {
+    pub kind: u8,
+    pub first: usize,
+    pub second: usize,
 }
 
-// ---- a step of each kind, held to its row. The entries are asked for by their numbers, so that a compiler knows what they say.
+// A step held to its row. One mode is followed: that in which it is reached, if there is one and no other. Whether that is so of every step is asked
+// at the end of the walk, of all at once (`each_once`). It is compiled in where it is called, for a kind that is known there: so a compiler knows what
+// the entries say.
+#[inline(always)]
+pub fn lead(row: Row, o: usize, seen: Marks) -> Led
+    requires { (o < most_leaf_steps) × RowRoom row }
+    ensures { (s : Step) → IsRow row s → StepLed o s seen result }
+{
+    if has_bit(seen.pending, o) {
+        return lead_in(entry(row.kind, PENDING), row.first, row.second, seen);
+    }
+    if has_bit(seen.closing, o) {
+        return lead_in(entry(row.kind, CLOSING), row.first, row.second, seen);
+    }
+    lead_in(entry(row.kind, IDLE), row.first, row.second, seen)
+}
 
 // Every next counts as reached idle, and leads to the same in every mode. It is not held to anything here: a step may lead back to it.
 pub fn lead_next(take: usize, done: usize, o: usize, seen: Marks) -> Marks
@@ -164,113 +160,7 @@ pub fn lead_next(take: usize, done: usize, o: usize, seen: Marks) -> Marks
     ensures agrees { (ks : List Mark) → Agrees seen ks → Agrees result (stepped o (next take done) ks) }
     ensures aside { Aside (next take done) seen result }
 {
-    let led = lead_in(entry(NEXT, IDLE), take, done, seen);
-    led.marks
-}
-
-pub fn lead_ok(to: usize, o: usize, seen: Marks) -> Led
-    requires { (o < most_leaf_steps) × (to < most_leaf_steps) }
-    ensures { StepLed o (ok to) seen result }
-{
-    lead_by(
-        entry(OK, IDLE),
-        entry(OK, PENDING),
-        entry(OK, CLOSING),
-        o,
-        to,
-        0,
-        seen,
-    )
-}
-
-pub fn lead_sup(to: usize, o: usize, seen: Marks) -> Led
-    requires { (o < most_leaf_steps) × (to < most_leaf_steps) }
-    ensures { StepLed o (sup to) seen result }
-{
-    lead_by(
-        entry(SUP, IDLE),
-        entry(SUP, PENDING),
-        entry(SUP, CLOSING),
-        o,
-        to,
-        0,
-        seen,
-    )
-}
-
-pub fn lead_ins(to: usize, o: usize, seen: Marks) -> Led
-    requires { (o < most_leaf_steps) × (to < most_leaf_steps) }
-    ensures { (b : ℕ) → StepLed o (ins b to) seen result }
-{
-    lead_by(
-        entry(INS, IDLE),
-        entry(INS, PENDING),
-        entry(INS, CLOSING),
-        o,
-        to,
-        0,
-        seen,
-    )
-}
-
-pub fn lead_acase(yes: usize, otherwise: usize, o: usize, seen: Marks) -> Led
-    requires { (o < most_leaf_steps) × (yes < most_leaf_steps) × (otherwise < most_leaf_steps) }
-    ensures { (s : ℕ) → StepLed o (acase s yes otherwise) seen result }
-{
-    lead_by(
-        entry(ACASE, IDLE),
-        entry(ACASE, PENDING),
-        entry(ACASE, CLOSING),
-        o,
-        yes,
-        otherwise,
-        seen,
-    )
-}
-
-pub fn lead_spend(yes: usize, otherwise: usize, o: usize, seen: Marks) -> Led
-    requires { (o < most_leaf_steps) × (yes < most_leaf_steps) × (otherwise < most_leaf_steps) }
-    ensures { (n : ℕ) → StepLed o (spend n yes otherwise) seen result }
-{
-    lead_by(
-        entry(SPEND, IDLE),
-        entry(SPEND, PENDING),
-        entry(SPEND, CLOSING),
-        o,
-        yes,
-        otherwise,
-        seen,
-    )
-}
-
-pub fn lead_end(o: usize, seen: Marks) -> Led
-    requires { o < most_leaf_steps }
-    ensures { StepLed o end seen result }
-{
-    lead_by(
-        entry(END, IDLE),
-        entry(END, PENDING),
-        entry(END, CLOSING),
-        o,
-        0,
-        0,
-        seen,
-    )
-}
-
-pub fn lead_halt(o: usize, seen: Marks) -> Led
-    requires { o < most_leaf_steps }
-    ensures { StepLed o halt seen result }
-{
-    lead_by(
-        entry(HALT, IDLE),
-        entry(HALT, PENDING),
-        entry(HALT, CLOSING),
-        o,
-        0,
-        0,
-        seen,
-    )
+    lead_in(entry(NEXT, IDLE), take, done, seen).marks
 }
 
 // ---- the end of the walk
@@ -280,7 +170,7 @@ fn offsets_below(count: usize) -> u64
     requires { (1 ≤ count) × (count ≤ most_leaf_steps) }
     ensures { (q : ℕ) → has result q ≡ ltb q count }
 {
-    0xFFFF_FFFF_FFFF_FFFFu64 >> (MOST_LEAF_STEPS - count)
+    u64::MAX >> (MOST_LEAF_STEPS - count)
 }
 
 // By all marks of a leaf of so many steps: each is reached in one mode. A next counts as reached idle.
@@ -303,14 +193,6 @@ pub fn each_once(nexts: u64, count: usize, seen: Marks) -> bool
 
 // ---- every mode in which a step is reached, for who asks which step breaks the rule. The walk does without: it follows one mode, for it only asks
 // whether there is such a step.
-
-// A step as its kind's row and its two targets.
-#[derive(Clone, Copy)]
-pub struct Row {
-    pub kind: u8,
-    pub first: usize,
-    pub second: usize,
-}
 
 // The modes in which one offset is marked.
 #[derive(Clone, Copy)]
@@ -338,11 +220,11 @@ fn lead_if(reached: bool, row: Row, mode: usize, seen: Marks) -> Marks
     requires t { T (room_for (led_by (entry_at row.kind mode) row.first row.second)) }
     ensures { Adds seen result (only_if reached (led_by (entry_at row.kind mode) row.first row.second)) }
 {
-    if !reached {
-        return seen;
+    if reached {
+        lead_in(entry(row.kind, mode), row.first, row.second, seen).marks
+    } else {
+        seen
     }
-    let led = lead_in(entry(row.kind, mode), row.first, row.second, seen);
-    led.marks
 }
 
 // The marks after a step, whatever the modes in which it is reached.

@@ -2,12 +2,11 @@
 use Prim.Native.Nat.{ℕ}
 use mathlib.Core.Path.{◌≡◌, refl, sym, ap, ap₂, ◌∙◌}
 use mathlib.Core.Bool.{Bool, true, false}
-use Rattle.actions.specs.declared.ActionSet.{ActionSet}
+use Rattle.std.specs.Prelude.{Result, Ok, Err}
 use Rattle.actions.proofs.Tests.{true-not-false}
 use Rattle.spec_policy.specs.Bytes.{Bytes}
 use Rattle.spec_check.specs.Check.{Answer, passes, refused, check}
-use Rattle.check_policy.specs.declared.Checked.{Checked}
-use Rattle.check_policy.specs.declared.Checked.TheVariants.{Passed, Refused}
+use Rattle.check_policy.specs.declared.Sets.{Sets}
 use Rattle.faults.specs.declared.Fault.{Fault}
 use Rattle.faults.specs.Meaning.{fault_of, fault_value}
 use Rattle.faults.proofs.Once.{same-fault}
@@ -25,26 +24,26 @@ second : Answer → ℕ
 second (passes r e) = e
 second (refused f) = 0
 
-pub one_answer : (a b : Checked) → answered a ≡ answered b → a ≡ b
+pub one_answer : (a b : Result Sets Fault) → answered a ≡ answered b → a ≡ b
 unfolding answered is_pass first second refusal_of
-one_answer (Passed r e) (Passed s f) h =
-    ap₂ (λ (x y : ℕ). Passed (record { bits = x }) (record { bits = y })) (ap first h) (ap second h)
-one_answer (Passed r e) (Refused f) h = true-not-false refl (ap is_pass h)
-one_answer (Refused f) (Passed r e) h = true-not-false refl (ap is_pass (sym h))
-one_answer (Refused f) (Refused g) h = ap Refused (sym (same-fault f) ∙ ap (λ (x : Answer). fault_value (refusal_of x)) h ∙ same-fault g)
+one_answer (Ok s) (Ok t) h =
+    ap₂ (λ (x y : ℕ). Ok (record { regulated = record { bits = x }; effects = record { bits = y } })) (ap first h) (ap second h)
+one_answer (Ok s) (Err f) h = true-not-false refl (ap is_pass h)
+one_answer (Err f) (Ok s) h = true-not-false refl (ap is_pass (sym h))
+one_answer (Err f) (Err g) h = ap Err (sym (same-fault f) ∙ ap (λ (x : Answer). fault_value (refusal_of x)) h ∙ same-fault g)
 
 -- ---- what the code's answer says of the check's
 
 -- what `refusal` gives of a refusal is that refusal
-pub refusal_is : {x : Checked} {f : Fault} (g : Fault) → fault_of g ≡ refusal_of (answered x) → x ≡ Refused f → fault_of g ≡ fault_of f
+pub refusal_is : {x : Result Sets Fault} {f : Fault} (g : Fault) → fault_of g ≡ refusal_of (answered x) → x ≡ Err f → fault_of g ≡ fault_of f
 unfolding answered refusal_of
-refusal_is g e h = e ∙ ap (λ (y : Checked). refusal_of (answered y)) h
+refusal_is g e h = e ∙ ap (λ (y : Result Sets Fault). refusal_of (answered y)) h
 
-module _ (policy : Bytes) {x : Checked} (e : answered x ≡ check policy) where
-  pub check-passes : {r f : ActionSet} → x ≡ Passed r f → check policy ≡ passes r.bits f.bits
+module _ (policy : Bytes) {x : Result Sets Fault} (e : answered x ≡ check policy) where
+  pub check-passes : {s : Sets} → x ≡ Ok s → check policy ≡ passes s.regulated.bits s.effects.bits
   unfolding answered
   check-passes h = sym e ∙ ap answered h
 
-  pub check-refuses : {f : Fault} → x ≡ Refused f → check policy ≡ refused (fault_of f)
+  pub check-refuses : {f : Fault} → x ≡ Err f → check policy ≡ refused (fault_of f)
   unfolding answered
   check-refuses h = sym e ∙ ap answered h

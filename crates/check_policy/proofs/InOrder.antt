@@ -6,6 +6,7 @@ use mathlib.Core.Bool.{Bool, true, false, ◌||◌, not}
 use mathlib.Core.List.{List, map}
 use lib.Dec.{T, eqb, ltb, nltb→le}
 use lib.ListN.{length, get_or}
+use Rattle.std.specs.Prelude.{Option, Some, Result, Ok, Err}
 use Rattle.actions.proofs.Tests.{or-false-left}
 use Rattle.spec_policy.specs.Bytes.{Bytes}
 use Rattle.spec_policy.specs.Lists.{summed, every}
@@ -24,16 +25,15 @@ use Rattle.spec_check.proofs.Kept.{broken4-is}
 use Rattle.spec_check.proofs.Passed.{lowest-refused, passes-all}
 use Rattle.spec_check.specs.Passed.{spot_by, fault_by, here, after}
 use Rattle.check_layout.specs.Frame.{Framed}
-use Rattle.check_layout.specs.Fits.{nodes_fit, unfit_node, rule_or4}
+use Rattle.check_layout.specs.Fits.{nodes_fit, unfit_node, kept_or4}
 use Rattle.check_layout.proofs.Unfit.{node-first, nodes-not}
 use Rattle.faults.specs.declared.Fault.{Fault}
-use Rattle.faults.specs.declared.Spot as code
-use Rattle.faults.specs.declared.Spot.TheVariants.{Record}
-use Rattle.faults.specs.Meaning.{spot_of, fault_of}
+use Rattle.faults.specs.declared.Refusal.{Refusal}
+use Rattle.faults.specs.declared.Refusal.TheVariants as refusals
+use Rattle.faults.specs.Meaning.{spot_of, fault_of, number_of}
 use Rattle.check_layout.proofs.Frame.{framed}
-use Rattle.check_policy.specs.declared.Checked.TheVariants.{Refused}
 use Rattle.check_policy.specs.Answers.{answered}
-use Rattle.check_policy.specs.Kept.{FrontKept, LeavesKept, Sought}
+use Rattle.check_policy.specs.Kept.{FrontKept, LeavesKept, Sought, Told}
 use Rattle.check_leaves.specs.Leaves.{lowest, LeavesFound}
 use Rattle.check_leaves.proofs.LeafLaws.{six-sum, six-leaves}
 use Rattle.check_interference.specs.Sets.{Treed, RegulatedFrom, EffectsFrom}
@@ -97,8 +97,8 @@ module _ (file : Bytes) where
     unfolding nodes_fit
     by_parts e = broken4-is file ∙ ap (λ (x : Bool). not x || not (every step_fits (step_records file))) e
 
-    pub refused-node : (f : Fault) (x : code.Spot) {p : ℕ} → fault_of f ≡ record { number = 4; spot = spot_of x } → spot_of x ≡ unfit_node file → x ≡ Record p
-        → answered (Refused f) ≡ check file
+    pub refused-node : (f : Fault) (x : Option ℕ) {p : ℕ} → fault_of f ≡ record { number = 4; spot = spot_of x } → spot_of x ≡ unfit_node file → x ≡ Some p
+        → answered (Err f) ≡ check file
     unfolding answered spot_by spot_of
     refused-node f x e u h =
         let v : on_record _ ≡ unfit_node file = sym (ap spot_of h) ∙ u in
@@ -108,72 +108,73 @@ module _ (file : Bytes) where
       sought : (rule : ℕ) → 4 ≤ rule → rule ≤ 8 → (7 ≤ rule → broken6 file ≡ false) → Sought file n m rule
       sought rule low high six = record { frame = k.frame; low = low; high = high; nodes-fit = fits; six-kept = six }
 
-      -- the same of a rule that was found broken before the step records were tested
-      pub sought-or-4 : (rule number : ℕ) → number ≡ rule_or4 (every step_fits (step_records file)) rule → 4 ≤ rule → rule ≤ 6 → Sought file n m number
-      unfolding rule_or4
-      sought-or-4 rule number e low high = subst (λ (r : ℕ). Sought file n m r) (sym e) (go (every step_fits (step_records file)))
-        where
-          go : (b : Bool) → Sought file n m (rule_or4 b rule)
-          go true = sought rule low (omega (arith, high)) (λ h. absurd (omega (arith, h, high)))
-          go false = sought 4 (omega arith) (omega arith) (λ h. absurd (omega (arith, h)))
+      told-4 : broken4 file ≡ true → Told file n m 4
+      told-4 four = record { sought = sought 4 (omega arith) (omega arith) (λ h. absurd (omega (arith, h))); answer = refused-4 four }
 
-      -- a rule that was found broken before the step records were tested
-      refused-or-4 : (rule number : ℕ) → number ≡ rule_or4 (every step_fits (step_records file)) rule → (broken4 file ≡ false → told rule ≡ check file)
-          → told number ≡ check file
-      unfolding rule_or4
-      refused-or-4 rule number e other = ap told e ∙ go (every step_fits (step_records file)) (by_parts fits)
-        where
-          go : (b : Bool) → broken4 file ≡ not b → told (rule_or4 b rule) ≡ check file
-          go true four = other four
-          go false four = refused-4 four
+      told-5 : broken4 file ≡ false → broken5 file ≡ true → Told file n m 5
+      told-5 four five = record { sought = sought 5 (omega arith) (omega arith) (λ h. absurd (omega (arith, h))); answer = refused-5 four five }
 
-      pub refused-child : (number : ℕ) → number ≡ rule_or4 (every step_fits (step_records file)) 5 → broken5 file ≡ true → told number ≡ check file
-      refused-child number e five = refused-or-4 5 number e (λ four. refused-5 four five)
+      told-6 : broken4 file ≡ false → broken5 file ≡ false → broken6 file ≡ true → Told file n m 6
+      told-6 four five six = record { sought = sought 6 (omega arith) (omega arith) (λ h. absurd (omega (arith, h))); answer = refused-6 four five six }
+
+      -- the step records were tested, after a rule was found broken
+      pub told-fields : {r : Refusal} → Err r ≡ kept_or4 (every step_fits (step_records file)) → Told file n m (number_of r)
+      unfolding kept_or4
+      told-fields {r} e = go (every step_fits (step_records file)) (by_parts fits) e
+        where
+          go : (b : Bool) → broken4 file ≡ not b → Err r ≡ kept_or4 b → Told file n m (number_of r)
+          go true four e = absurd cc
+          go false four e = let z : refusals.Fields ≡ r = cc in subst (λ (q : Refusal). Told file n m (number_of q)) z (told-4 four)
+
+      fields-kept : {u : Unit {0}} → Ok u ≡ kept_or4 (every step_fits (step_records file)) → broken4 file ≡ false
+      unfolding kept_or4
+      fields-kept {u} e = go (every step_fits (step_records file)) (by_parts fits) e
+        where
+          go : (b : Bool) → broken4 file ≡ not b → Ok u ≡ kept_or4 b → broken4 file ≡ false
+          go true four e = four
+          go false four e = absurd cc
+
+      pub told-child : {u : Unit {0}} → Ok u ≡ kept_or4 (every step_fits (step_records file)) → broken5 file ≡ true → Told file n m 5
+      told-child e five = told-5 (fields-kept e) five
 
       module _ (five : broken5 file ≡ false) where
-        pub refused-sum : (number : ℕ) → number ≡ rule_or4 (every step_fits (step_records file)) 6 → (b : Bool) → b ≡ eqb (summed (map steps_owned (nodes file))) m → b ≡ false
-            → told number ≡ check file
-        refused-sum number e b g h = refused-or-4 6 number e (λ four. refused-6 four five (six-sum k.frame b g h))
+        pub told-sum : {u : Unit {0}} → Ok u ≡ kept_or4 (every step_fits (step_records file)) → (b : Bool) → b ≡ eqb (summed (map steps_owned (nodes file))) m → b ≡ false → Told file n m 6
+        told-sum e b g h = told-6 (fields-kept e) five (six-sum k.frame b g h)
 
         -- the leaves own all steps, and the walks through them have found this of rules 4, 6, 7 and 8
-        module _ (all : summed (map steps_owned (nodes file)) ≡ m) {rule : ℕ} {effs ins : List ℕ} (found : LeavesFound file n rule effs ins) where
-          rule-is : rule ≡ lowest (broken4 file) (broken6 file) (broken7 file) (broken8 file)
-          rule-is = let a = sym (by_parts fits) in let b = sym (six-leaves k.frame all) in found.is ∙ λ i. lowest (a i) (b i) (broken7 file) (broken8 file)
+        module _ (all : summed (map steps_owned (nodes file)) ≡ m) {walked : Result (Unit {0}) Refusal} {effs ins : List ℕ} (found : LeavesFound file n walked effs ins) where
+          walked-is : walked ≡ lowest (broken4 file) (broken6 file) (broken7 file) (broken8 file)
+          walked-is = let a = sym (by_parts fits) in let b = sym (six-leaves k.frame all) in found.is ∙ λ i. lowest (a i) (b i) (broken7 file) (broken8 file)
 
-          pub refused-leaf : (rule ≡ 0 → ⊥) → told rule ≡ check file
+          pub told-leaf : {r : Refusal} → walked ≡ Err r → Told file n m (number_of r)
           unfolding lowest
-          refused-leaf some = ap told rule-is ∙ go (broken4 file) (broken6 file) (broken7 file) (broken8 file) refl refl refl refl (λ z. some (rule-is ∙ z))
+          told-leaf {r} e = go (broken4 file) (broken6 file) (broken7 file) (broken8 file) refl refl refl refl (sym walked-is ∙ e)
+            where
+              known : {q : Refusal} → q ≡ r → Told file n m (number_of q) → Told file n m (number_of r)
+              known z t = subst (λ (q : Refusal). Told file n m (number_of q)) z t
+
+              go : (four six seven eight : Bool) → broken4 file ≡ four → broken6 file ≡ six → broken7 file ≡ seven → broken8 file ≡ eight
+                  → lowest four six seven eight ≡ Err r → Told file n m (number_of r)
+              go true six seven eight a b c d e = let z : refusals.Fields ≡ r = cc in known z (told-4 a)
+              go false true seven eight a b c d e = let z : refusals.Targets ≡ r = cc in known z (told-6 a five b)
+              go false false true eight a b c d e =
+                  let z : refusals.Modes ≡ r = cc in
+                  known z (record { sought = sought 7 (omega arith) (omega arith) (λ h. b); answer = refused-7 a five b c })
+              go false false false true a b c d e =
+                  let z : refusals.Branches ≡ r = cc in
+                  known z (record { sought = sought 8 (omega arith) (omega arith) (λ h. b); answer = refused-8 a five b c d })
+              go false false false false a b c d e = absurd cc
+
+          pub leaves_kept : walked ≡ Ok tt → LeavesKept file n m
+          unfolding lowest
+          leaves_kept none = go (broken4 file) (broken6 file) (broken7 file) (broken8 file) refl refl refl refl (sym walked-is ∙ none)
             where
               go : (four six seven eight : Bool) → broken4 file ≡ four → broken6 file ≡ six → broken7 file ≡ seven → broken8 file ≡ eight
-                  → (lowest four six seven eight ≡ 0 → ⊥) → told (lowest four six seven eight) ≡ check file
-              go true six seven eight a b c d broken = refused-4 a
-              go false true seven eight a b c d broken = refused-6 a five b
-              go false false true eight a b c d broken = refused-7 a five b c
-              go false false false true a b c d broken = refused-8 a five b c d
-              go false false false false a b c d broken = absurd (broken refl)
-
-          pub sought-leaf : (rule ≡ 0 → ⊥) → Sought file n m rule
-          unfolding lowest
-          sought-leaf some =
-              subst (λ (r : ℕ). Sought file n m r) (sym rule-is) (go (broken4 file) (broken6 file) (broken7 file) (broken8 file) refl (λ z. some (rule-is ∙ z)))
-            where
-              go : (four six seven eight : Bool) → broken6 file ≡ six → (lowest four six seven eight ≡ 0 → ⊥) → Sought file n m (lowest four six seven eight)
-              go true six seven eight b broken = sought 4 (omega arith) (omega arith) (λ h. absurd (omega (arith, h)))
-              go false true seven eight b broken = sought 6 (omega arith) (omega arith) (λ h. absurd (omega (arith, h)))
-              go false false true eight b broken = sought 7 (omega arith) (omega arith) (λ h. b)
-              go false false false true b broken = sought 8 (omega arith) (omega arith) (λ h. b)
-              go false false false false b broken = absurd (broken refl)
-
-          pub leaves_kept : rule ≡ 0 → LeavesKept file n m
-          unfolding lowest
-          leaves_kept none = go (broken4 file) (broken6 file) (broken7 file) (broken8 file) refl refl refl refl (sym rule-is ∙ none)
-            where
-              go : (four six seven eight : Bool) → broken4 file ≡ four → broken6 file ≡ six → broken7 file ≡ seven → broken8 file ≡ eight
-                  → lowest four six seven eight ≡ 0 → LeavesKept file n m
-              go true six seven eight a b c d e = absurd (omega arith)
-              go false true seven eight a b c d e = absurd (omega arith)
-              go false false true eight a b c d e = absurd (omega arith)
-              go false false false true a b c d e = absurd (omega arith)
+                  → lowest four six seven eight ≡ Ok tt → LeavesKept file n m
+              go true six seven eight a b c d e = absurd cc
+              go false true seven eight a b c d e = absurd cc
+              go false false true eight a b c d e = absurd cc
+              go false false false true a b c d e = absurd cc
               go false false false false a b c d e = record { front = k; four = a; five = five; six = b; seven = c; eight = d }
 
   module _ {n m : ℕ} (k : LeavesKept file n m) where

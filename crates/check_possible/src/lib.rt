@@ -14,6 +14,5 @@ pub fn join_at(sets: &mut [u64; MOST_LEAF_STEPS], o: usize, more: ActionSet)
     ensures { sets.new ≡ join_at sets.old o more.bits }
 {
     let held = ActionSet { bits: sets[o] };
-    let joined = held.union(more);
-    sets[o] = joined.bits;
+    sets[o] = held.union(more).bits;
 }

@@ -1,7 +1,7 @@
 -- Spreads cut off at 256: a pair's is made of its children's, and each tells rule 10 of its node.
 --
-use Prim.Native.Nat.{ℕ, suc, ◌+◌, ◌*◌, ◌≤◌, ◌<◌}
-use native.Mathlib.Nat.{add-mul, mul-suc, mul-le-mul}
+use Prim.Native.Nat.{ℕ, suc, min, ◌+◌, ◌*◌, ◌≤◌, ◌<◌}
+use native.Mathlib.Nat.{add-mul, mul-suc}
 use native.Mathlib.Omega.{arith}
 use mathlib.Core.Path.{◌≡◌, refl, sym, ap, ap₂, ◌∙◌, subst}
 use mathlib.Core.Bool.{Bool, true, false, not}
@@ -37,11 +37,11 @@ use Rattle.spec_policy.proofs.ListLaws.{one-most}
 
 -- ---- numbers
 
-pub cap-low : (s : ℕ) → s ≤ 255 → cap s ≡ s
+cap-low : (s : ℕ) → s ≤ 255 → cap s ≡ s
 unfolding cap
 cap-low s h = rw (le-leb s 255 h, cap)
 
-pub cap-high : (s : ℕ) → 255 < s → cap s ≡ 256
+cap-high : (s : ℕ) → 255 < s → cap s ≡ 256
 unfolding cap
 cap-high s h = rw (lt-leb s 255 h, cap)
 
@@ -53,6 +53,10 @@ cap-by {A} s f g = go (leb s 255) refl
     go true e = let h : s ≤ 255 = leb-true s 255 e in f h (cap-low s h)
     go false e = let h : 255 < s = leb-false s 255 e in g h (cap-high s h)
 
+-- which is the lesser of it and 256
+pub cap-min : (s : ℕ) → min s 256 ≡ cap s
+cap-min s = cap-by s (λ h e. omega arith) (λ h e. omega arith)
+
 cap-most : (s : ℕ) → cap s ≤ 256
 cap-most s = cap-by s (λ h e. omega arith) (λ h e. omega arith)
 
@@ -60,13 +64,6 @@ product : (l r : ℕ) → (1 + l) * (1 + r) ≡ 1 + l + r + l * r
 product l r =
     let e : 1 + r ≡ suc r = omega arith in
     ap (λ (x : ℕ). (1 + l) * x) e ∙ omega (arith, add-mul 1 l (suc r), mul-suc l r)
-
--- a product of two kept numbers
-pub product-most : (l r : ℕ) → l ≤ 256 → r ≤ 256 → (1 + l) * (1 + r) ≤ 66049
-product-most l r h k = let z : l * r ≤ 256 * 256 = mul-le-mul h k in omega (arith, product l r)
-
-pub product-least : (l r : ℕ) → 1 ≤ (1 + l) * (1 + r)
-product-least l r = omega (arith, product l r)
 
 -- a pair's spread is at least its children's
 grows : (w : Way) (l r : ℕ) → (l ≤ spread_of w l r) × (r ≤ spread_of w l r)

@@ -11,16 +11,14 @@ ghost use Rattle.spec_check.specs.Children.{broken5};
 ghost use Rattle.spec_check.specs.Targets.{broken6};
 ghost use Rattle.spec_check.specs.Spread.{spread_of, wrong10};
 ghost use Rattle.faults.specs.Meaning.{spot_of};
-ghost use Rattle.check_layout.specs.Frame.{Framed};
 ghost use Rattle.check_leaves.specs.Leaves.{inserts_in, LeafValues};
 ghost use Rattle.check_spread.specs.Spreads.{cap, capped, KeptFrom};
 
-use faults::{Spot, on_record};
+use check_layout::counted::Counted;
+use faults::on_record;
 use file_records::{Kind, Way, node_kind, node_left, node_place, node_right};
 
-// The greatest spread that rule 10 lets pass, and what stands for any greater.
-const WIDEST: u32 = 255;
-
+// What stands for any spread that rule 10 does not let pass, which are those above 255.
 const TOO_WIDE: u32 = 256;
 
 fn pair_spread(way: Way, left: u32, right: u32) -> u32
@@ -31,7 +29,7 @@ fn pair_spread(way: Way, left: u32, right: u32) -> u32
         Way::Parallel => left + right,
         Way::Sequential => (1 + left) * (1 + right) - 1,
     };
-    if spread <= WIDEST { spread } else { TOO_WIDE }
+    spread.min(TOO_WIDE)
 }
 
 // The spread of the pair whose record begins at `place`, by those of its children.
@@ -42,32 +40,28 @@ fn spread_at(policy: &[u8], place: usize, way: Way, spreads: &[u32]) -> u32
     ensures { let x = node_at policy.now place in
         result ≡ cap (spread_of (way_of way) (get_or spreads.now x.left 0) (get_or spreads.now x.right 0)) }
 {
-    let left = node_left(policy, place) as usize;
-    let right = node_right(policy, place) as usize;
-    pair_spread(way, spreads[left], spreads[right])
+    let left = spreads[usize::from(node_left(policy, place))];
+    let right = spreads[usize::from(node_right(policy, place))];
+    pair_spread(way, left, right)
 }
 
 // The first node whose spread is above 255: the nodes go down, so the last that is found is the first. Before, each leaf's entry has the number of its ins
 // steps, which is its spread; after, every node's entry has its spread.
-pub fn wrong10(policy: &[u8], n: usize, m: usize, spreads: &mut [u32]) -> Spot
-    requires framed { Framed policy.now n m }
-    requires policy_value { broken4 policy.now ≡ false }
-    requires policy_value_2 { broken5 policy.now ≡ false }
-    requires policy_value_3 { broken6 policy.now ≡ false }
-    requires leaf_values { LeafValues inserts_in policy.now n spreads.old }
-    ensures result_value { spot_of result ≡ wrong10 policy.now }
-    ensures kept_from { KeptFrom policy.now n 0 spreads.new }
+pub fn wrong10(file: Counted, spreads: &mut [u32]) -> Option<u16>
+    requires policy_value { broken4 file.policy.now ≡ false }
+    requires policy_value_2 { broken5 file.policy.now ≡ false }
+    requires policy_value_3 { broken6 file.policy.now ≡ false }
+    requires leaf_values { LeafValues inserts_in file.policy.now file.n spreads.old }
+    ensures result_value { spot_of result ≡ wrong10 file.entry.policy.now }
+    ensures kept_from { KeptFrom file.entry.policy.now file.entry.n 0 spreads.new }
 {
-    let mut found = Spot::Nowhere;
-    let mut i = n;
-    while i > 0 {
-        i -= 1;
+    let mut found = None;
+    for i in (0..file.n).rev() {
         let place = node_place(i);
-        let kind = node_kind(policy, place);
-        match kind {
+        match node_kind(file.policy, place) {
             Kind::Leaf => {}
             Kind::Pair(way, _) => {
-                let spread = spread_at(policy, place, way, spreads);
+                let spread = spread_at(file.policy, place, way, spreads);
                 spreads[i] = spread;
                 if spread == TOO_WIDE {
                     found = on_record(i);
@@ -82,14 +76,13 @@ pub fn wrong10(policy: &[u8], n: usize, m: usize, spreads: &mut [u32]) -> Spot
 }
 
 // The root's spread, for who shows it; 256 if it is above 255.
-pub fn root_spread(policy: &[u8], n: usize, m: usize, spreads: &mut [u32]) -> u32
-    requires framed { Framed policy.now n m }
-    requires policy_value { broken4 policy.now ≡ false }
-    requires policy_value_2 { broken5 policy.now ≡ false }
-    requires policy_value_3 { broken6 policy.now ≡ false }
-    requires leaf_values { LeafValues inserts_in policy.now n spreads.old }
-    ensures { result ≡ capped (tree_at policy.now 0) }
+pub fn root_spread(file: Counted, spreads: &mut [u32]) -> u32
+    requires policy_value { broken4 file.policy.now ≡ false }
+    requires policy_value_2 { broken5 file.policy.now ≡ false }
+    requires policy_value_3 { broken6 file.policy.now ≡ false }
+    requires leaf_values { LeafValues inserts_in file.policy.now file.n spreads.old }
+    ensures { result ≡ capped (tree_at file.entry.policy.now 0) }
 {
-    wrong10(policy, n, m, spreads);
+    wrong10(file, spreads);
     spreads[0]
 }

@@ -12,9 +12,11 @@ use borrow.Author.Tests.{lt-ltb, le-ltb, eq-eqb, ne_eqb}
 use Rattle.actions.specs.Sets.{ActionSet, has, EMPTY, union}
 use Rattle.actions.specs.declared.ActionSet.{ActionSet as Set}
 use Rattle.actions.proofs.SetLaws.{union-end, has-union}
-use Rattle.actions.proofs.Tests.{true-not-false, yes_of, and-true}
-use Rattle.spec_policy.specs.Lists.{one}
-use Rattle.spec_policy.specs.Steps.{Step, halt, is_next, is_ins}
+use Rattle.actions.proofs.Tests.{and-true}
+use Rattle.std.specs.Prelude.{Option}
+use Rattle.spec_check.specs.Targets.{target_fits, asks_within}
+use Rattle.spec_policy.specs.Lists.{one, every}
+use Rattle.spec_policy.specs.Steps.{Step, halt, targets, is_next, is_ins}
 use Rattle.spec_check.specs.Possible.{join_at, pass_on, branches_taken}
 use Rattle.spec_check.specs.Interference.{step_effects}
 use Rattle.spec_check.specs.Modes.{Mark, stepped, mode_fits}
@@ -76,9 +78,8 @@ pub off-right : (a b : Bool) → b ≡ false → (a && b) ≡ false
 off-right true b e = e
 off-right false b e = refl
 
-pub stray-met : {code : List Step} {r : ActionSet} {o : ℕ} {s : Step} {ks : List Mark} {w x : Walk} {ps qs : List ActionSet} → x.targets ≡ false
-    → tested r code o s ≡ false → Met code r o s ks w x ps qs
-stray-met {code} {r} {o} {s} e f = record { fits = e ∙ sym f ∙ tested-all r code o s; went = λ t. true-not-false (yes_of _ t) e }
+pub stray-met : (code : List Step) (r : ActionSet) (o : ℕ) (s : Step) → tested r code o s ≡ false → (asks_within r s && every (target_fits code o) (targets s)) ≡ false
+stray-met code r o s f = sym (tested-all r code o s) ∙ f
 
 -- ---- a step that is no next
 
@@ -132,5 +133,10 @@ module _ {code : List Step} {o count : ℕ} {s : Step} {w : Walk} (st : Stands c
 
 -- ---- the step that a value of the enum means
 
-pub of-meant : (r : ActionSet) (o count : ℕ) {s s' : Step} (w x : Walk) (ps qs : List ActionSet) → s ≡ s' → Meets r o count s' w x ps qs → Meets r o count s w x ps qs
+pub of-meant : (r : ActionSet) (o count : ℕ) {s s' : Step} (w : Walk) (x : Option Walk) (ps qs : List ActionSet) → s ≡ s' → Meets r o count s' w x ps qs → Meets r o count s w x ps qs
 of-meant r o count w x ps qs e m = subst (λ (s : Step). Meets r o count s w x ps qs) (sym e) m
+
+-- what was met of a step, of an equal answer
+pub met-as : (code : List Step) (r : ActionSet) (o : ℕ) (s : Step) (ks : List Mark) (w : Walk) (x y : Option Walk) (ps qs : List ActionSet)
+    → x ≡ y → Met code r o s ks w x ps qs → Met code r o s ks w y ps qs
+met-as code r o s ks w x y ps qs e m = subst (λ (z : Option Walk). Met code r o s ks w z ps qs) e m

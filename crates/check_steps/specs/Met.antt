@@ -1,5 +1,5 @@
 -- What the walk through a leaf finds at one step.
-use Rattle.std.specs.Prelude.{ℕ, ◌+◌, ◌≤◌, ◌<◌, ◌≡◌, true, ◌&&◌, ◌||◌, List, [], ◌∷◌, T, eqb, length, get_or}
+use Rattle.std.specs.Prelude.{ℕ, ◌+◌, ◌≤◌, ◌<◌, ◌≡◌, true, false, ◌&&◌, ◌||◌, List, [], ◌∷◌, Option, Some, None, T, eqb, length, get_or}
 use Rattle.actions.specs.Sets.{ActionSet, has, EMPTY, union}
 use Rattle.spec_policy.specs.Lists.{one, every}
 use Rattle.spec_policy.specs.Steps.{Step, halt, targets, is_next, is_ins}
@@ -40,16 +40,16 @@ pub record Went (r : ActionSet) (o : ℕ) (s : Step) (ks : List Mark) (w w' : Wa
   pub nexts : (q : ℕ) → has w'.nexts q ≡ (has w.nexts q || (is_next s && eqb q o))
   pub possible : sets' ≡ pass_on r s (get_or sets o EMPTY) sets
 
-pub record Met (code : List Step) (r : ActionSet) (o : ℕ) (s : Step) (ks : List Mark) (w w' : Walk) (sets sets' : List ActionSet) : Type 0 where
-  pub fits : w'.targets ≡ (asks_within r s && every (target_fits code o) (targets s))
-  pub went : T w'.targets → Went r o s ks w w' sets sets'
+-- There is a walk after the step where it keeps rule 6.
+abbrev pub Met : List Step → ActionSet → ℕ → Step → List Mark → Walk → Option Walk → List ActionSet → List ActionSet → Type 0
+Met code r o s ks w None sets sets' = (asks_within r s && every (target_fits code o) (targets s)) ≡ false
+Met code r o s ks w (Some w') sets sets' = ((asks_within r s && every (target_fits code o) (targets s)) ≡ true) × Went r o s ks w w' sets sets'
 
-abbrev pub Meets : ActionSet → ℕ → ℕ → Step → Walk → Walk → List ActionSet → List ActionSet → Type 0
-Meets r o count s w w' sets sets' = (code : List Step) (ks : List Mark) → Stands code o count s w → Met code r o s ks w w' sets sets'
+abbrev pub Meets : ActionSet → ℕ → ℕ → Step → Walk → Option Walk → List ActionSet → List ActionSet → Type 0
+Meets r o count s w found sets sets' = (code : List Step) (ks : List Mark) → Stands code o count s w → Met code r o s ks w found sets sets'
 
 -- the walk after a step, as far as its marks go
 pub record LedOn (w : Walk) (led : Led) (w' : Walk) : Type 0 where
-  pub targets : w'.targets ≡ true
   pub modes : w'.modes ≡ (w.modes && led.fits)
   pub marks : w'.marks ≡ led.marks
   pub taken : w'.taken ≡ w.taken

@@ -15,11 +15,5 @@ pub fn target_fits(nexts: u64, count: usize, o: usize, t: usize) -> bool
     ensures value { (code : List Step) → length code ≡ count → NextsBefore (o + 1) nexts code → result ≡ target_fits code o t }
     ensures t_lt_count { result ≡ true → t < count }
 {
-    if t >= count {
-        return false;
-    }
-    if o < t {
-        return true;
-    }
-    has_bit(nexts, t)
+    t < count && (o < t || has_bit(nexts, t))
 }

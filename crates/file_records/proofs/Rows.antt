@@ -1,24 +1,11 @@
--- A record's kind: what it is where the kind byte is known, or known to be none of the kinds.
+-- A step's record by its kind: what it is where the kind byte is known, or known to be none of the kinds.
 use Prim.Native.Nat.{ℕ, zero, suc, ◌+◌}
 use mathlib.Core.Path.{◌≡◌, refl, ap, ◌∙◌}
 use Rattle.spec_policy.specs.Bytes.{Bytes, number}
 use Rattle.spec_policy.specs.Records.{StepRecord, step_record_at}
 use Rattle.spec_policy.specs.Steps.{Step, next, ok, sup, ins, acase, spend, end, halt, step_of}
-use Rattle.spec_policy.specs.Tree.{no_node, node_kind}
 use Rattle.file_records.specs.declared.Step as values
 use Rattle.file_records.specs.Kinds.{step_meant, step_value}
-
-pub none-of-seven : (k : ℕ) → (k ≡ 1 → ⊥) → (k ≡ 2 → ⊥) → (k ≡ 3 → ⊥) → (k ≡ 4 → ⊥) → (k ≡ 5 → ⊥) → (k ≡ 6 → ⊥) → (k ≡ 7 → ⊥) → node_kind k ≡ no_node
-unfolding node_kind
-none-of-seven zero a b c d e f g = refl
-none-of-seven (suc zero) a b c d e f g = absurd (a refl)
-none-of-seven (suc (suc zero)) a b c d e f g = absurd (b refl)
-none-of-seven (suc (suc (suc zero))) a b c d e f g = absurd (c refl)
-none-of-seven (suc (suc (suc (suc zero)))) a b c d e f g = absurd (d refl)
-none-of-seven (suc (suc (suc (suc (suc zero))))) a b c d e f g = absurd (e refl)
-none-of-seven (suc (suc (suc (suc (suc (suc zero)))))) a b c d e f g = absurd (f refl)
-none-of-seven (suc (suc (suc (suc (suc (suc (suc zero))))))) a b c d e f g = absurd (g refl)
-none-of-seven (suc (suc (suc (suc (suc (suc (suc (suc k)))))))) a b c d e f g = refl
 
 -- the row at a place, with k for its kind
 abbrev pub step_record_with : Bytes → ℕ → ℕ → StepRecord

@@ -30,7 +30,7 @@ pub const MOST_FILE: usize = 6646;
 
 pub const VERSION: u8 = 1;
 
-// Kinds of nodes.
+// Kinds of nodes and of steps, as the file has them: `node_kind` and `step_at` below make the enums of them.
 pub const LEAF: u8 = 1;
 
 pub const TRIVIAL: u8 = 2;
@@ -45,7 +45,6 @@ pub const OR: u8 = 6;
 
 pub const SEQ_OR: u8 = 7;
 
-// Kinds of steps.
 pub const NEXT: u8 = 1;
 
 pub const OK: u8 = 2;
@@ -71,77 +70,48 @@ pub fn byte(s: &[u8], at: usize) -> u8
     s[at]
 }
 
-fn wide(x: u8) -> u64
-    ensures { (result ≡ x) × (result < 256) }
-{
-    x as u64
-}
-
 pub fn word16(s: &[u8], at: usize) -> u64
     requires { at + 2 ≤ length s.now }
     ensures { (result ≡ number s.now at 2) × (result < 65536) }
 {
-    wide(byte(s, at)) * 256 + wide(byte(s, at + 1))
-}
-
-// Bytes as one flat sum of shifts: a compiler reads them in one load, which it does not see in a nested sum.
-fn join4(a: u8, b: u8, c: u8, d: u8) -> u64
-    ensures { (result ≡ ((a * 256 + b) * 256 + c) * 256 + d) × (result < 4294967296) }
-{
-    (wide(a) << 24) | (wide(b) << 16) | (wide(c) << 8) | wide(d)
-}
-
-fn join8(a: u8, b: u8, c: u8, d: u8, e: u8, f: u8, g: u8, h: u8) -> u64
-    ensures { result ≡ ((((((a * 256 + b) * 256 + c) * 256 + d) * 256 + e) * 256 + f) * 256 + g) * 256 + h }
-{
-    (wide(a) << 56)
-        | (wide(b) << 48)
-        | (wide(c) << 40)
-        | (wide(d) << 32)
-        | (wide(e) << 24)
-        | (wide(f) << 16)
-        | (wide(g) << 8)
-        | wide(h)
+    u64::from(u16::from_be_bytes([s[at], s[at + 1]]))
 }
 
 pub fn word32(s: &[u8], at: usize) -> u64
     requires { at + 4 ≤ length s.now }
     ensures { (result ≡ number s.now at 4) × (result < 4294967296) }
 {
-    join4(
-        byte(s, at),
-        byte(s, at + 1),
-        byte(s, at + 2),
-        byte(s, at + 3),
-    )
+    u64::from(u32::from_be_bytes([s[at], s[at + 1], s[at + 2], s[at + 3]]))
 }
 
 pub fn word64(s: &[u8], at: usize) -> u64
     requires { at + 8 ≤ length s.now }
     ensures { result ≡ number s.now at 8 }
 {
-    join8(
-        byte(s, at),
-        byte(s, at + 1),
-        byte(s, at + 2),
-        byte(s, at + 3),
-        byte(s, at + 4),
-        byte(s, at + 5),
-        byte(s, at + 6),
-        byte(s, at + 7),
-    )
+    u64::from_be_bytes([
+        s[at],
+        s[at + 1],
+        s[at + 2],
+        s[at + 3],
+        s[at + 4],
+        s[at + 5],
+        s[at + 6],
+        s[at + 7],
+    ])
 }
 
 // ---- the front
 
 // The two counts.
+#[tactic(auto, unfolding(spec_policy::specs::Records::node_count))]
 pub fn nodes_of(policy: &[u8]) -> usize
     requires { front_size ≤ length policy.now }
     ensures { (result ≡ node_count policy.now) × (result < 65536) }
 {
-    byte(policy, 3) as usize
+    usize::from(byte(policy, 3))
 }
 
+#[tactic(auto, unfolding(spec_policy::specs::Records::step_count))]
 pub fn steps_of(policy: &[u8]) -> usize
     requires { front_size ≤ length policy.now }
     ensures { (result ≡ step_count policy.now) × (result < 65536) }
@@ -173,6 +143,7 @@ pub enum Kind {
 }
 
 // Where node i's record begins.
+#[tactic(auto, unfolding(spec_policy::specs::Records::node_place))]
 pub fn node_place(i: usize) -> usize
     requires { i ≤ 255 }
     ensures { result ≡ node_place i }
@@ -180,12 +151,12 @@ pub fn node_place(i: usize) -> usize
     FRONT_SIZE + NODE_SIZE * i
 }
 
+#[tactic(auto, unfolding(spec_policy::specs::Records::node_at, spec_policy::specs::Tree::node_kind, crate::specs::Kinds::kind_of))]
 pub fn node_kind(policy: &[u8], at: usize) -> Kind
     requires { at + node_size ≤ length policy.now }
     ensures { kind_of result ≡ node_kind (node_at policy.now at).kind }
 {
-    let k = byte(policy, at);
-    match k {
+    match byte(policy, at) {
         LEAF => Kind::Leaf,
         TRIVIAL => Kind::Trivial,
         UNSATISFIABLE => Kind::Unsatisfiable,
@@ -197,6 +168,7 @@ pub fn node_kind(policy: &[u8], at: usize) -> Kind
     }
 }
 
+#[tactic(auto, unfolding(spec_policy::specs::Records::node_at))]
 pub fn node_left(policy: &[u8], at: usize) -> u8
     requires { at + node_size ≤ length policy.now }
     ensures { result ≡ (node_at policy.now at).left }
@@ -204,6 +176,7 @@ pub fn node_left(policy: &[u8], at: usize) -> u8
     byte(policy, at + 1)
 }
 
+#[tactic(auto, unfolding(spec_policy::specs::Records::node_at))]
 pub fn node_right(policy: &[u8], at: usize) -> u8
     requires { at + node_size ≤ length policy.now }
     ensures { result ≡ (node_at policy.now at).right }
@@ -211,6 +184,7 @@ pub fn node_right(policy: &[u8], at: usize) -> u8
     byte(policy, at + 2)
 }
 
+#[tactic(auto, unfolding(spec_policy::specs::Records::node_at))]
 pub fn node_count(policy: &[u8], at: usize) -> u8
     requires { at + node_size ≤ length policy.now }
     ensures { result ≡ (node_at policy.now at).count }
@@ -218,6 +192,7 @@ pub fn node_count(policy: &[u8], at: usize) -> u8
     byte(policy, at + 3)
 }
 
+#[tactic(auto, unfolding(spec_policy::specs::Records::node_at))]
 pub fn node_start(policy: &[u8], at: usize) -> u64
     requires { at + node_size ≤ length policy.now }
     ensures { (result ≡ (node_at policy.now at).start) × (result < 4294967296) }
@@ -225,6 +200,7 @@ pub fn node_start(policy: &[u8], at: usize) -> u64
     word32(policy, at + 4)
 }
 
+#[tactic(auto, unfolding(spec_policy::specs::Records::node_at))]
 pub fn node_set(policy: &[u8], at: usize) -> ActionSet
     requires { at + node_size ≤ length policy.now }
     ensures { result.bits ≡ (node_at policy.now at).set }
@@ -257,14 +233,14 @@ pub enum Step {
     Halt,
 }
 
+#[tactic(auto, unfolding(spec_policy::specs::Records::step_record_at, spec_policy::specs::Steps::step_of, crate::specs::Kinds::step_value))]
 pub fn step_at(policy: &[u8], at: usize) -> Step
     requires { at + step_size ≤ length policy.now }
     ensures { result ≡ step_value (step_of (step_record_at policy.now at)) }
 {
-    let k = byte(policy, at);
     let first = byte(policy, at + 2);
     let second = byte(policy, at + 3);
-    match k {
+    match byte(policy, at) {
         NEXT => Step::Next(first, second),
         OK => Step::Ok(first),
         SUP => Step::Sup(first),

@@ -1,6 +1,5 @@
 // The policy view: the file where the caller keeps it, its two counts beside it, and thin getters of its records. No record is copied.
-// A getter takes the view apart and leaves the reading to a function on the slice and the numbers. Each asks that the record lies in
-// the file, which rule 3 gives of every record.
+// Each getter asks that the record lies in the file, which rule 3 gives of every record.
 #![tactic(auto)]
 
 ghost use Rattle.std.specs.Prelude.{◌≡◌, ◌+◌, ◌*◌, ◌≤◌, ◌<◌, length};
@@ -22,18 +21,16 @@ pub struct PolicyView<'a> {
     pub steps: usize,
 }
 
-fn viewed<'a>(file: &'a [u8], nodes: usize, steps: usize) -> PolicyView<'a>
-    ensures { (result.file ≡ file.entry) × ((result.nodes ≡ nodes) × (result.steps ≡ steps)) }
-{
-    PolicyView { file, nodes, steps }
-}
-
 // The view that an entry point takes of the caller's file.
 pub fn view_of<'a>(file: &'a [u8]) -> PolicyView<'a>
     requires { front_size ≤ length file.now }
     ensures { (result.file ≡ file.entry) × ((result.nodes ≡ node_count file.now) × (result.steps ≡ step_count file.now)) }
 {
-    viewed(file, nodes_of(file), steps_of(file))
+    PolicyView {
+        file,
+        nodes: nodes_of(file),
+        steps: steps_of(file),
+    }
 }
 
 // ---- a node's record, by its number
@@ -83,60 +80,42 @@ pub fn set<'a>(view: PolicyView<'a>, node: usize) -> ActionSet
 // ---- a step's record, by its number
 
 // The steps' records begin where the nodes' end.
-fn step_in(file: &[u8], nodes: usize, number: usize) -> Step
-    requires { (nodes ≤ 255) × (node_place nodes + step_size * number + step_size ≤ length file.now) }
-    ensures { result ≡ step_value (step_of (step_record_at file.now (node_place nodes + step_size * number))) }
+fn step_place<'a>(view: PolicyView<'a>, number: usize) -> usize
+    requires { (view.nodes ≤ 255) × (node_place view.nodes + step_size * number + step_size ≤ length view.file.now) }
+    ensures { result ≡ node_place view.entry.nodes + step_size * number }
 {
-    step_at(file, node_place(nodes) + STEP_SIZE * number)
-}
-
-fn step_kind_in(file: &[u8], nodes: usize, number: usize) -> u8
-    requires { (nodes ≤ 255) × (node_place nodes + step_size * number + step_size ≤ length file.now) }
-    ensures { result ≡ (step_record_at file.now (node_place nodes + step_size * number)).kind }
-{
-    byte(file, node_place(nodes) + STEP_SIZE * number)
-}
-
-fn step_first_in(file: &[u8], nodes: usize, number: usize) -> u8
-    requires { (nodes ≤ 255) × (node_place nodes + step_size * number + step_size ≤ length file.now) }
-    ensures { result ≡ (step_record_at file.now (node_place nodes + step_size * number)).first }
-{
-    byte(file, node_place(nodes) + STEP_SIZE * number + 2)
-}
-
-fn step_second_in(file: &[u8], nodes: usize, number: usize) -> u8
-    requires { (nodes ≤ 255) × (node_place nodes + step_size * number + step_size ≤ length file.now) }
-    ensures { result ≡ (step_record_at file.now (node_place nodes + step_size * number)).second }
-{
-    byte(file, node_place(nodes) + STEP_SIZE * number + 3)
+    node_place(view.nodes) + STEP_SIZE * number
 }
 
 pub fn step<'a>(view: PolicyView<'a>, number: usize) -> Step
     requires { (view.nodes ≤ 255) × (node_place view.nodes + step_size * number + step_size ≤ length view.file.now) }
     ensures { result ≡ step_value (step_of (step_record_at view.entry.file.now (node_place view.entry.nodes + step_size * number))) }
 {
-    step_in(view.file, view.nodes, number)
+    step_at(view.file, step_place(view, number))
 }
 
+#[tactic(auto, unfolding(spec_policy::specs::Records::step_record_at))]
 pub fn step_kind<'a>(view: PolicyView<'a>, number: usize) -> u8
     requires { (view.nodes ≤ 255) × (node_place view.nodes + step_size * number + step_size ≤ length view.file.now) }
     ensures { result ≡ (step_record_at view.entry.file.now (node_place view.entry.nodes + step_size * number)).kind }
 {
-    step_kind_in(view.file, view.nodes, number)
+    byte(view.file, step_place(view, number))
 }
 
+#[tactic(auto, unfolding(spec_policy::specs::Records::step_record_at))]
 pub fn step_first<'a>(view: PolicyView<'a>, number: usize) -> u8
     requires { (view.nodes ≤ 255) × (node_place view.nodes + step_size * number + step_size ≤ length view.file.now) }
     ensures { result ≡ (step_record_at view.entry.file.now (node_place view.entry.nodes + step_size * number)).first }
 {
-    step_first_in(view.file, view.nodes, number)
+    byte(view.file, step_place(view, number) + 2)
 }
 
+#[tactic(auto, unfolding(spec_policy::specs::Records::step_record_at))]
 pub fn step_second<'a>(view: PolicyView<'a>, number: usize) -> u8
     requires { (view.nodes ≤ 255) × (node_place view.nodes + step_size * number + step_size ≤ length view.file.now) }
     ensures { result ≡ (step_record_at view.entry.file.now (node_place view.entry.nodes + step_size * number)).second }
 {
-    step_second_in(view.file, view.nodes, number)
+    byte(view.file, step_place(view, number) + 3)
 }
 
 // ---- the same of the file itself, for those that read it after the check: each makes a view and asks it.

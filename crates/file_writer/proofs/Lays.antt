@@ -4,10 +4,10 @@ use native.Mathlib.Omega.{arith}
 use mathlib.Core.Path.{◌≡◌, refl, sym, ap, ◌∙◌, subst}
 use mathlib.Core.Bool.{false}
 use mathlib.Core.List.{◌∷◌, ◌++◌, append_assoc}
-use lib.ListN.{length, take, drop, length-append, length-drop, take-append-drop}
-use lib.Seq.{take-length, drop-append-le, drop-drop, length-take-le}
+use lib.ListN.{length, take, drop, length-append}
+use lib.Seq.{drop-drop}
 use borrow.Author.Tests.{lt-ltb, le-ltb}
-use borrow.Rule.Slice.PartMut.{put_mid, mid_of}
+use borrow.Rule.Slice.PartMut.{put_mid}
 use Rattle.spec_policy.specs.Bytes.{Bytes, spell, put}
 use Rattle.spec_policy.specs.Records.{node_size, step_size}
 use Rattle.spec_policy.specs.Parts.{file}
@@ -20,8 +20,7 @@ use Rattle.faults.specs.declared.Fault.{Fault}
 use Rattle.faults.specs.Meaning.{fault_of, fault_value}
 use Rattle.faults.proofs.Once.{same-fault}
 use Rattle.file_writer.specs.Replies.{spoken, Gave}
-use Rattle.file_writer.specs.declared.Written.{Written}
-use Rattle.file_writer.specs.declared.Written.TheVariants.{Wrote, Refused}
+use Rattle.std.specs.Prelude.{Result as Given, Ok, Err}
 use Rattle.spec_writer.proofs.Files.{written-length, unlent, by-check}
 
 -- bytes copied over as many bytes from a place on
@@ -48,34 +47,34 @@ laid_out nodes steps out {front} {a} {b} {c} {size} e l h f p q r =
 -- ---- the answers in their order
 
 -- a refusal that means g is the one that g has
-told : (f : Fault) {g : spots.Fault} → fault_of f ≡ g → Refused f ≡ Refused (fault_value g)
-told f e = ap Refused (sym (same-fault f) ∙ ap fault_value e)
+told : (f : Fault) {g : spots.Fault} → fault_of f ≡ g → ◌≡◌ {A = Given ℕ Fault} (Err f) (Err (fault_value g))
+told f e = ap Err (sym (same-fault f) ∙ ap fault_value e)
 
 module _ (nodes steps out : Bytes) where
-  pub gave-3 : lendable nodes steps ≡ false → (f : Fault) → fault_of f ≡ spots.bare_fault 3 → Gave (writes nodes steps out) (Refused f) out
+  pub gave-3 : lendable nodes steps ≡ false → (f : Fault) → fault_of f ≡ spots.bare_fault 3 → Gave (writes nodes steps out) (Err f) out
   unfolding refusal spoken
-  gave-3 e f t = subst (λ (x : Result). Gave x (Refused f) out) (sym (unlent nodes steps out e)) (record { answer = told f t; out = refl })
+  gave-3 e f t = subst (λ (x : Result). Gave x (Err f) out) (sym (unlent nodes steps out e)) (record { answer = told f t; out = refl })
 
   module _ (l : Lent nodes steps) where
-    so : {a : Answer} {r : Written} {bytes : Bytes} → check (written nodes steps) ≡ a → Gave (after a (written nodes steps) out) r bytes → Gave (writes nodes steps out) r bytes
+    so : {a : Answer} {r : Given ℕ Fault} {bytes : Bytes} → check (written nodes steps) ≡ a → Gave (after a (written nodes steps) out) r bytes → Gave (writes nodes steps out) r bytes
     so {a} {r} {bytes} e g =
         subst (λ (x : Result). Gave x r bytes) (sym (by-check nodes steps out l ∙ ap (λ (x : Answer). after x (written nodes steps) out) e)) g
 
-    pub gave-refused : {g : spots.Fault} → check (written nodes steps) ≡ refused g → (f : Fault) → fault_of f ≡ g → Gave (writes nodes steps out) (Refused f) out
+    pub gave-refused : {g : spots.Fault} → check (written nodes steps) ≡ refused g → (f : Fault) → fault_of f ≡ g → Gave (writes nodes steps out) (Err f) out
     unfolding after refusal spoken
     gave-refused e f t = so e (record { answer = told f t; out = refl })
 
     pub gave-15 : {r e : ℕ} → check (written nodes steps) ≡ passes r e → length out < length (written nodes steps) → (f : Fault) → fault_of f ≡ spots.bare_fault 15
-        → Gave (writes nodes steps out) (Refused f) out
+        → Gave (writes nodes steps out) (Err f) out
     unfolding after laid refusal spoken
     gave-15 e h f t = so e (rw (lt-ltb (length out) (length (written nodes steps)) h, laid) (record { answer = told f t; out = refl }))
 
     pub gave-file : {r e n : ℕ} {bytes : Bytes} → check (written nodes steps) ≡ passes r e → length (written nodes steps) ≤ length out → n ≡ length (written nodes steps)
-        → bytes ≡ put out 0 (written nodes steps) → Gave (writes nodes steps out) (Wrote n) bytes
+        → bytes ≡ put out 0 (written nodes steps) → Gave (writes nodes steps out) (Ok n) bytes
     unfolding after laid spoken
-    gave-file e h f g = so e (rw (le-ltb (length out) (length (written nodes steps)) h, laid) (record { answer = ap Wrote f; out = g }))
+    gave-file e h f g = so e (rw (le-ltb (length out) (length (written nodes steps)) h, laid) (record { answer = ap Ok f; out = g }))
 
 -- ---- two answers that meet the contract are one
 
-pub gave-once : {x : Result} {r r' : Written} {bytes bytes' : Bytes} → Gave x r bytes → Gave x r' bytes' → (r ≡ r') × (bytes ≡ bytes')
+pub gave-once : {x : Result} {r r' : Given ℕ Fault} {bytes bytes' : Bytes} → Gave x r bytes → Gave x r' bytes' → (r ≡ r') × (bytes ≡ bytes')
 gave-once g h = (g.answer ∙ sym h.answer, g.out ∙ sym h.out)

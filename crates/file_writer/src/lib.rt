@@ -10,16 +10,12 @@ ghost use Rattle.spec_writer.specs.Lent.{lendable, Lent};
 ghost use Rattle.file_writer.specs.Replies.{Gave};
 ghost use Rattle.spec_policy.specs.Records.{most_file};
 
-use check_policy::{Checked, check, refusal};
-use faults::{Fault, bare_fault};
+use check_policy::{Checked, check};
+use faults::{Fault, Refusal};
 use file_records::{FRONT_SIZE, MOST_FILE, MOST_NODES, MOST_STEPS, NODE_SIZE, STEP_SIZE, VERSION};
 
 // The length of the file, or a refusal. Its record is one of the file that would be written.
-#[derive(Clone, Copy)]
-pub enum Written {
-    Wrote(u16),
-    Refused(Fault),
-}
+pub type Written = Result<u16, Fault>;
 
 // Whether the buffers hold whole records, and as many as a file may have.
 fn lendable(nodes: &[u8], steps: &[u8]) -> bool
@@ -36,14 +32,9 @@ fn lendable(nodes: &[u8], steps: &[u8]) -> bool
 fn front(length: u16, n: u8, m: u16) -> [u8; FRONT_SIZE]
     ensures { result ≡ spell 2 length ++ (1 ∷ n ∷ spell 2 m) }
 {
-    [
-        ((length >> 8) % 256) as u8,
-        ((length >> 0) % 256) as u8,
-        VERSION,
-        n,
-        ((m >> 8) % 256) as u8,
-        ((m >> 0) % 256) as u8,
-    ]
+    let [length_high, length_low] = length.to_be_bytes();
+    let [m_high, m_low] = m.to_be_bytes();
+    [length_high, length_low, VERSION, n, m_high, m_low]
 }
 
 // Copies bytes over others from a place on.
@@ -91,16 +82,13 @@ pub fn write(nodes: &[u8], steps: &[u8], out: &mut [u8]) -> Written
     ensures { Gave (writes nodes.now steps.now out.old) result out.new }
 {
     if !lendable(nodes, steps) {
-        return Written::Refused(bare_fault(3));
+        return Err(Refusal::Counts.bare());
     }
-    let checked = check_laid(nodes, steps);
-    let Checked::Passed(_, _) = checked else {
-        return Written::Refused(refusal(checked));
-    };
+    check_laid(nodes, steps)?;
     let length = size(nodes, steps);
     if out.len() < length {
-        return Written::Refused(bare_fault(15));
+        return Err(Refusal::Room.bare());
     }
     lay(nodes, steps, out);
-    Written::Wrote(length as u16)
+    Ok(length as u16)
 }

@@ -15,21 +15,22 @@ use Rattle.laws_turns.proofs.Bounds.{answered-emits}
 use Rattle.faults.specs.declared.Fault.{Fault}
 use Rattle.faults.specs.Meaning.{fault_of, fault_value, fault_word}
 use Rattle.faults.proofs.Once.{value-means}
-use Rattle.call_answer.specs.declared.Answer as guard
-use Rattle.call_answer.specs.declared.Answer.TheVariants.{Answered, Refused}
+use Rattle.std.specs.Prelude.{Ok, Err}
+use Rattle.call_answer.specs.declared.Answered.{Answered}
+use Rattle.call_answer.specs.Replies as guard
 use Rattle.call_answer.specs.Replies.{spoken}
 use Rattle.spec_writer.specs.Writing as writing
 use Rattle.file_writer.specs.Replies as replies
-use Rattle.file_writer.specs.declared.Written.TheVariants as written
 use Rattle.fretmere.specs.Words.{Says, word, Few, count_word, size_word}
 
-pub answered-word : (n s : ℕ) (x : Reply) → Answered n s ≡ spoken x → s * 65536 + n ≡ word x
+pub answered-word : (a : Answered) (x : Reply) → Ok a ≡ spoken x → a.status * 65536 + a.events ≡ word x
 unfolding spoken word
-answered-word n s (answers k t) e =
-    let a : n ≡ k = cc in let b : s ≡ status_number t = cc in omega arith
-answered-word n s (refuses k) e = cc
+answered-word a (answers k t) e =
+    let said : ◌≡◌ {A = Answered} a (record { events = k; status = status_number t }) = cc in
+    omega (arith, ap (λ (b : Answered). b.events) said, ap (λ (b : Answered). b.status) said)
+answered-word a (refuses k) e = cc
 
-pub refused-word : (f : Fault) (x : Reply) → Refused f ≡ spoken x → fault_word (fault_of f) ≡ word x
+pub refused-word : (f : Fault) (x : Reply) → Err f ≡ spoken x → fault_word (fault_of f) ≡ word x
 unfolding spoken word
 refused-word f (answers n s) e = cc
 refused-word f (refuses g) e = let a : fault_value g ≡ f = cc in ap fault_word (value-means f g a)
@@ -63,12 +64,12 @@ no-count state h = sym (rw (ne_eqb (length state) state_size h, count_word))
 
 -- ---- the writer's answer
 
-pub size-word : (n : ℕ) (x : writing.Reply) → written.Wrote n ≡ replies.spoken x → n ≡ size_word x
+pub size-word : (n : ℕ) (x : writing.Reply) → Ok n ≡ replies.spoken x → n ≡ size_word x
 unfolding replies.spoken size_word
 size-word n (writing.wrote k) e = cc
 size-word n (writing.refuses k) e = cc
 
-pub refused-size : (f : Fault) (x : writing.Reply) → written.Refused f ≡ replies.spoken x → fault_word (fault_of f) ≡ size_word x
+pub refused-size : (f : Fault) (x : writing.Reply) → Err f ≡ replies.spoken x → fault_word (fault_of f) ≡ size_word x
 unfolding replies.spoken size_word
 refused-size f (writing.wrote n) e = cc
 refused-size f (writing.refuses g) e = let a : fault_value g ≡ f = cc in ap fault_word (value-means f g a)

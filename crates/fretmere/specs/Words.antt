@@ -1,5 +1,5 @@
 -- What the C functions return: the entry points' answers, each in one word; a refusal is the same word everywhere (`fault_word`).
-use Rattle.std.specs.Prelude.{ℕ, ◌+◌, ◌*◌, ◌≤◌, ◌≡◌, true, false, eqb, length}
+use Rattle.std.specs.Prelude.{ℕ, ◌+◌, ◌*◌, ◌≤◌, ◌≡◌, true, false, eqb, length, Ok, Err}
 use Rattle.spec_policy.specs.Bytes.{Bytes}
 use Rattle.spec_policy.specs.Spots.{bare_fault}
 use Rattle.spec_check.specs.Check.{Answer, passes, refused}
@@ -7,8 +7,7 @@ use Rattle.spec_turns.specs.Status.{status_number}
 use Rattle.spec_turns.specs.Saved.{state_size, count_at}
 use Rattle.spec_turns.specs.Entries.{Reply, answers, refuses, Result}
 use Rattle.faults.specs.Meaning.{fault_word}
-use Rattle.call_answer.specs.declared.Answer as guard
-use Rattle.call_answer.specs.declared.Answer.TheVariants.{Answered, Refused}
+use Rattle.call_answer.specs.Replies as guard
 use Rattle.spec_writer.specs.Writing as writing
 
 -- The check: zero and both sets, or the refusal, and then both stay as they were.
@@ -23,8 +22,8 @@ word (refuses f) = fault_word f
 
 -- an answer whose events can be counted in the word
 abbrev pub Few : guard.Answer → Type 0
-Few (Answered n s) = n ≤ 256
-Few (Refused k) = Unit {0}
+Few (Ok a) = a.events ≤ 256
+Few (Err f) = Unit {0}
 
 -- just this: the word, and every byte of the two lent buffers
 pub record Gave (x : Result) (r : ℕ) (bytes room : Bytes) : Type 0 where

@@ -10,8 +10,8 @@ ghost use Rattle.file_writer.specs.Replies as replies;
 ghost use Rattle.fretmere.specs.Words.{Says, Few, word, Gave, count_word, size_word, Produced};
 
 use call_answer::Answer;
-use check_policy::{Checked, check};
-use faults::{bare_fault, fault_word};
+use check_policy::check;
+use faults::{Refusal, fault_word};
 use file_writer::{Written, write};
 use guard::{close, offer, open};
 use turn_state::{STATE_SIZE, saved_count};
@@ -21,16 +21,18 @@ use turn_state::{STATE_SIZE, saved_count};
 pub extern "C" fn fretmere_check(policy: &[u8], regulated: &mut u64, effects: &mut u64) -> u32
     ensures { Says (check policy.now) result regulated.old effects.old regulated.new effects.new }
 {
-    let checked = check(policy);
-    match checked {
-        Checked::Passed(r, e) => {
-            *regulated = r.bits;
-            *effects = e.bits;
+    match check(policy) {
+        Ok(sets) => {
+            *regulated = sets.regulated.bits;
+            *effects = sets.effects.bits;
             0
         }
-        Checked::Refused(fault) => fault_word(fault),
+        Err(fault) => fault_word(fault),
     }
 }
+
+// What one in the byte below the highest of a word counts.
+const STATUS_BYTE: u32 = 1 << 16;
 
 // An answer in one word: a refusal, or the status in the byte below the highest and the number of events in the rest.
 fn packed(answer: Answer) -> u32
@@ -38,8 +40,8 @@ fn packed(answer: Answer) -> u32
     ensures { (x : Reply) → answer ≡ spoken x → result ≡ word x }
 {
     match answer {
-        Answer::Answered(events, status) => status as u32 * 65536 + events as u32,
-        Answer::Refused(fault) => fault_word(fault),
+        Ok(answered) => u32::from(answered.status) * STATUS_BYTE + answered.events as u32,
+        Err(fault) => fault_word(fault),
     }
 }
 
@@ -76,9 +78,9 @@ pub extern "C" fn fretmere_running_leaves(state: &[u8]) -> u32
     ensures { result ≡ count_word state.now }
 {
     if state.len() != STATE_SIZE {
-        return fault_word(bare_fault(11));
+        return fault_word(Refusal::Buffers.bare());
     }
-    saved_count(state) as u32
+    u32::from(saved_count(state))
 }
 
 // The writer's answer in one word: a refusal, or the length of the file.
@@ -86,8 +88,8 @@ fn packed_size(written: Written) -> u32
     ensures { (x : writing.Reply) → written ≡ replies.spoken x → result ≡ size_word x }
 {
     match written {
-        Written::Wrote(length) => length as u32,
-        Written::Refused(fault) => fault_word(fault),
+        Ok(length) => u32::from(length),
+        Err(fault) => fault_word(fault),
     }
 }
 

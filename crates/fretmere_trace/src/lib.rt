@@ -7,9 +7,9 @@ ghost use Rattle.spec_trace.specs.Traces as traces;
 ghost use Rattle.trace_run.specs.Reports.{stop_value};
 ghost use Rattle.fretmere_trace.specs.Words.{stop_word, Gave};
 
-use faults::fault_word;
+use faults::{Fault, fault_word};
 use trace_events::ACTION_COUNTS;
-use trace_run::{Report, Stop, follow_trace};
+use trace_run::follow_trace;
 use turn_tally::STEP_COUNTS;
 
 // The tally, as C has it: for each step of the file how often it ran; and for each action how often it was accepted, suppressed, inserted.
@@ -24,12 +24,12 @@ pub struct Tally {
 const REPORT_WORDS: usize = 3;
 
 // What ended the run in one word: 0, or a refusal.
-fn stop_word(stop: Stop) -> u32
+fn stop_word(stop: Option<Fault>) -> u32
     ensures { (z : traces.Stop) → stop ≡ stop_value z → result ≡ stop_word z }
 {
     match stop {
-        Stop::Unrefused => 0,
-        Stop::RefusedWith(fault) => fault_word(fault),
+        None => 0,
+        Some(fault) => fault_word(fault),
     }
 }
 
@@ -47,15 +47,14 @@ fn trace_on_counts(
         (record { steps = steps.entry.now; actions = actions.old }))
         result report.new state.new events.new steps.exit.now actions.new }
 {
-    let told = follow_trace(policy, trace, state, events, steps, actions);
-    match told {
-        Report::Unopened(fault) => {
+    match follow_trace(policy, trace, state, events, steps, actions) {
+        Err(fault) => {
             *report = [0, 0, 0];
             fault_word(fault)
         }
-        Report::Followed(stop, judged, written, status) => {
-            *report = [judged as u64, written as u64, status as u64];
-            stop_word(stop)
+        Ok(run) => {
+            *report = [run.judged as u64, run.events as u64, u64::from(run.status)];
+            stop_word(run.stop)
         }
     }
 }

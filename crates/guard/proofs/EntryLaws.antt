@@ -19,11 +19,10 @@ use Rattle.laws_turns.proofs.Answered.{kept-11}
 use Rattle.faults.specs.declared.Fault.{Fault}
 use Rattle.faults.specs.Meaning.{fault_of, fault_value}
 use Rattle.faults.proofs.Once.{same-fault}
-use Rattle.call_answer.specs.declared.Answer.{Answer}
-use Rattle.call_answer.specs.declared.Answer.TheVariants as answers
+use Rattle.std.specs.Prelude.{Err}
 use Rattle.call_answer.specs.declared.Call.{Call}
 use Rattle.call_carry.specs.Calls.{readable, Allowed}
-use Rattle.call_answer.specs.Replies.{spoken, Gave}
+use Rattle.call_answer.specs.Replies.{Answer, spoken, Gave}
 
 -- ---- what a refusal that does not apply says
 
@@ -51,11 +50,11 @@ allowed policy state room x e f g = let k = room-enough state room f in record {
 -- ---- in order
 
 -- a refusal that means g is the one that g has
-told : (f : Fault) {g : spots.Fault} → fault_of f ≡ g → answers.Refused f ≡ answers.Refused (fault_value g)
-told f e = ap answers.Refused (sym (same-fault f) ∙ ap fault_value e)
+told : (f : Fault) {g : spots.Fault} → fault_of f ≡ g → ◌≡◌ {A = Answer} (Err f) (Err (fault_value g))
+told f e = let refused_by : Fault → Answer = λ g. Err g in ap refused_by (sym (same-fault f) ∙ ap fault_value e)
 
 pub refused-file : (policy : Bytes) (q : Request) (state room : Bytes) {g : spots.Fault} → check policy ≡ refused g → (f : Fault) → fault_of f ≡ g
-    → Gave (entry policy q state room) (answers.Refused f) state room
+    → Gave (entry policy q state room) (Err f) state room
 unfolding entry refusal spoken
 refused-file policy q state room e f t = rw (e, entry) (record { answer = told f t; state = refl; events = refl })
 
@@ -69,11 +68,11 @@ all_left policy q state room h = record { left = rw (h, entry) }
 
 module _ {policy : Bytes} {q : Request} {state room : Bytes} where
   module _ {r : Refusal} {rs : List Refusal} (l : Left policy q state room (r ∷ rs)) where
-    pub refused-here : r.applies ≡ true → (f : Fault) → fault_of f ≡ spots.bare_fault r.number → Gave (entry policy q state room) (answers.Refused f) state room
+    pub refused-here : r.applies ≡ true → (f : Fault) → fault_of f ≡ spots.bare_fault r.number → Gave (entry policy q state room) (Err f) state room
     unfolding unless refusal spoken
     refused-here e f t =
         let g : unless (r ∷ rs) policy q state room ≡ refusal (spots.bare_fault r.number) state room = rw (e, unless) in
-        subst (λ (x : Result). Gave x (answers.Refused f) state room) (sym (l.left ∙ g)) (record { answer = told f t; state = refl; events = refl })
+        subst (λ (x : Result). Gave x (Err f) state room) (sym (l.left ∙ g)) (record { answer = told f t; state = refl; events = refl })
 
     pub next-left : r.applies ≡ false → Left policy q state room rs
     unfolding unless

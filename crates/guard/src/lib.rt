@@ -8,19 +8,19 @@ use actions::LAST_ACTION;
 use call_answer::{Answer, Call};
 use call_carry::{carry_action, carry_out};
 use call_refusals::{broken11, broken12, broken14};
-use check_policy::{Checked, check, refusal};
-use faults::bare_fault;
+use check_policy::{check, refusal};
+use faults::Refusal;
 
 // Opens the policy: the state buffer need hold nothing beforehand.
 pub fn open(policy: &[u8], state: &mut [u8], events: &mut [u8]) -> Answer
     ensures { Gave (opens policy.now state.old events.old) result state.new events.new }
 {
     let checked = check(policy);
-    let Checked::Passed(_, _) = checked else {
-        return Answer::Refused(refusal(checked));
+    let Ok(_) = checked else {
+        return Err(refusal(checked));
     };
     if broken11(state, events) {
-        return Answer::Refused(bare_fault(11));
+        return Err(Refusal::Buffers.bare());
     }
     carry_out(policy, state, events, Call::Open)
 }
@@ -30,23 +30,22 @@ pub fn offer(policy: &[u8], state: &mut [u8], events: &mut [u8], action: u8) -> 
     ensures { Gave (offers policy.now state.old events.old action) result state.new events.new }
 {
     let checked = check(policy);
-    let Checked::Passed(set, _) = checked else {
-        return Answer::Refused(refusal(checked));
+    let Ok(sets) = checked else {
+        return Err(refusal(checked));
     };
     if broken11(state, events) {
-        return Answer::Refused(bare_fault(11));
+        return Err(Refusal::Buffers.bare());
     }
     if broken12(policy, state) {
-        return Answer::Refused(bare_fault(12));
+        return Err(Refusal::State.bare());
     }
-    let halted = broken14(state);
     if action > LAST_ACTION {
-        return Answer::Refused(bare_fault(13));
+        return Err(Refusal::Action.bare());
     }
-    if halted {
-        return Answer::Refused(bare_fault(14));
+    if broken14(state) {
+        return Err(Refusal::Halted.bare());
     }
-    carry_action(policy, set, state, events, action)
+    carry_action(policy, sets.regulated, state, events, action)
 }
 
 // Closes the policy.
@@ -54,14 +53,14 @@ pub fn close(policy: &[u8], state: &mut [u8], events: &mut [u8]) -> Answer
     ensures { Gave (closes policy.now state.old events.old) result state.new events.new }
 {
     let checked = check(policy);
-    let Checked::Passed(_, _) = checked else {
-        return Answer::Refused(refusal(checked));
+    let Ok(_) = checked else {
+        return Err(refusal(checked));
     };
     if broken11(state, events) {
-        return Answer::Refused(bare_fault(11));
+        return Err(Refusal::Buffers.bare());
     }
     if broken12(policy, state) {
-        return Answer::Refused(bare_fault(12));
+        return Err(Refusal::State.bare());
     }
     carry_out(policy, state, events, Call::Close)
 }

@@ -7,6 +7,8 @@ use mathlib.Core.List.{List, map}
 use lib.Dec.{eqb}
 use lib.ListN.{length}
 use borrow.Author.Tests.{le-leb}
+use Rattle.std.specs.Prelude.{Result, Ok}
+use Rattle.faults.specs.declared.Refusal.{Refusal}
 use Rattle.actions.proofs.Tests.{yes_of, not-not, or-false-left, or-false-right}
 use Rattle.spec_policy.specs.Bytes.{Bytes}
 use Rattle.spec_policy.specs.Lists.{summed, every}
@@ -36,9 +38,9 @@ module _ (file : Bytes) (ok : Passed file) where
   nodes-fit = yes_of (nodes_fit file) (not-not (nodes_fit file) (or-false-left (not (nodes_fit file)) (not (every step_fits (step_records file))) (sym (broken4-is file) ∙ ok.kept4)))
 
   -- no leaf breaks a rule, so the walk tells none, and holds each leaf's inserts
-  pub inserts-held : {n rule : ℕ} {effs ins : List ℕ} → LeavesFound file n rule effs ins → LeafValues inserts_in file n ins
+  pub walked-well : {n : ℕ} {walked : Result (Unit {0}) Refusal} {effs ins : List ℕ} → LeavesFound file n walked effs ins → walked ≡ Ok tt
   unfolding lowest
-  inserts-held f = f.inserts (f.is ∙ λ i. lowest (four i) (six i) (ok.kept7 i) (ok.kept8 i))
+  walked-well f = f.is ∙ λ i. lowest (four i) (six i) (ok.kept7 i) (ok.kept8 i)
     where
       four : not (every step_fits (step_records file)) ≡ false
       four = or-false-right (not (every (λ x. node_fits (node_kind x.kind) x) (nodes file))) (not (every step_fits (step_records file))) (sym (broken4-is file) ∙ ok.kept4)
@@ -47,6 +49,9 @@ module _ (file : Bytes) (ok : Passed file) where
       six =
           or-false-right (not (eqb (summed (map steps_owned (nodes file))) (step_count file))) (not (every_leaf targets_fit (nodes_with_steps file)))
           (sym (broken6-is file) ∙ ok.kept6)
+
+  pub inserts-held : {n : ℕ} {walked : Result (Unit {0}) Refusal} {effs ins : List ℕ} → LeavesFound file n walked effs ins → LeafValues inserts_in file n ins
+  inserts-held f = f.inserts (walked-well f)
 
   module _ (n m : ℕ) (p : n ≡ node_count file) (q : m ≡ step_count file) where
     pub frame : Framed file n m

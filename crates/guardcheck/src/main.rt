@@ -1,6 +1,6 @@
 // guardcheck: reads a policy file on standard input and prints the root's two sets and its spread, or the check's refusal. Proved is the text (`tell`):
-// it is what `specs/Shown` says of the file. Not proved, for no contract of the kit's can say it: that the bytes which `read` leaves are those that
-// came in, and that the text handed to `write` comes out. A read that fails counts as the end of the input.
+// it is what `specs/Shown` says of the file. That the bytes read are the reader's next ones is what `fill` of run_input says. Not proved: that
+// standard input is such a reader, and that the text handed to `write` comes out. A read that fails counts as the end of the input.
 #![tactic(auto)]
 
 ghost use Rattle.std.specs.Prelude.{◌≡◌, ◌+◌, ◌≤◌, length};
@@ -12,27 +12,32 @@ ghost use Rattle.text_append.specs.Added.{Added, Tells};
 ghost use Rattle.guardcheck.specs.Shown.{set_line, passed_text, shown, text_room};
 
 use actions::ActionSet;
+use check_layout::counted::Counted;
 use check_leaves::walk_leaves;
-use check_policy::{Checked, check};
+use check_policy::{Sets, check};
 use check_spread::root_spread;
-use faults::bare_fault;
+use faults::Refusal;
 use file_records::{MOST_FILE, MOST_NODES, nodes_of, steps_of};
 use run_input::read_full;
 use std::io;
 use std::io::Write;
 use text_append::{append, append_number, append_set, refuse};
 
-// The root's spread. The leaves are walked through once more for their inserts: the check's answer has no spread, and here nobody waits.
+// The root's spread. The leaves are walked through once more for their inserts, and no walk is refused: the check's answer has no spread, and here nobody
+// waits.
 fn spread_of(policy: &[u8]) -> u32
     requires { Passed policy.now }
     ensures { result ≡ spread (tree policy.now) }
 {
-    let n = nodes_of(policy);
-    let m = steps_of(policy);
+    let file = Counted {
+        policy,
+        n: nodes_of(policy),
+        m: steps_of(policy),
+    };
     let mut effects = [0u64; MOST_NODES];
     let mut inserts = [0u32; MOST_NODES];
-    walk_leaves(policy, n, m, &mut effects, &mut inserts);
-    root_spread(policy, n, m, &mut inserts)
+    walk_leaves(file, &mut effects, &mut inserts).unwrap();
+    root_spread(file, &mut inserts)
 }
 
 // A line: a name, and a set.
@@ -44,13 +49,13 @@ fn append_named(out: &mut [u8], at: usize, name: &[u8], set: ActionSet) -> usize
     append(out, end, b"\n")
 }
 
-fn tell_passed(out: &mut [u8], regulated: ActionSet, effects: ActionSet, spread: u32) -> usize
-    ensures { Added out.old 0 (passed_text regulated.bits effects.bits spread) out.new result }
+fn tell_passed(out: &mut [u8], sets: Sets, spread: u32) -> usize
+    ensures { Added out.old 0 (passed_text sets.regulated.bits sets.effects.bits spread) out.new result }
 {
-    let first = append_named(out, 0, b"regulated", regulated);
-    let second = append_named(out, first, b"effects", effects);
+    let first = append_named(out, 0, b"regulated", sets.regulated);
+    let second = append_named(out, first, b"effects", sets.effects);
     let third = append(out, second, b"spread ");
-    let end = append_number(out, third, spread as u64);
+    let end = append_number(out, third, u64::from(spread));
     append(out, end, b"\n")
 }
 
@@ -60,14 +65,11 @@ fn tell(input: &[u8], room: &mut [u8]) -> usize
     ensures { Tells room.new result (shown input.now) }
 {
     if input.len() > MOST_FILE {
-        return refuse(room, 0, bare_fault(1));
+        return refuse(room, 0, Refusal::Length.bare());
     }
     match check(input) {
-        Checked::Passed(regulated, effects) => {
-            let spread = spread_of(input);
-            tell_passed(room, regulated, effects, spread)
-        }
-        Checked::Refused(fault) => refuse(room, 0, fault),
+        Ok(sets) => tell_passed(room, sets, spread_of(input)),
+        Err(fault) => refuse(room, 0, fault),
     }
 }
 

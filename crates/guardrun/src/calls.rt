@@ -30,9 +30,8 @@ pub fn tell(
     ensures { Spoke (entry policy.now (asked request) state.old events.old)
         (asked request) state.new events.new text.old text.new result }
 {
-    let answer = ask(policy, state, events, request);
-    match answer {
-        Answer::Answered(count, s) => answered(text, events, request, count, s),
-        Answer::Refused(fault) => refused(text, request, fault),
+    match ask(policy, state, events, request) {
+        Ok(answer) => answered(text, events, request, answer.events, answer.status),
+        Err(fault) => refused(text, request, fault),
     }
 }

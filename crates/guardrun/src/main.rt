@@ -1,7 +1,7 @@
 // guardrun: reads a policy and then actions, a byte each, on standard input, and prints what the guard answers. Proved is the text of each
-// call (`tell`): it is what `said` says of the definition's result. Not proved, for no contract of the kit's can say it:
-// that the bytes which `read` leaves are those that came in, and that the texts handed to `write` come out, in their order. A read that
-// fails counts as the end of the input; a write that fails ends the run.
+// call (`tell`): it is what `said` says of the definition's result. That the bytes read are the reader's next ones is what `fill` of
+// run_input says. Not proved: that standard input is such a reader, and that the texts handed to `write` come out, in their order. A read
+// that fails counts as the end of the input; a write that fails ends the run.
 #![tactic(auto)]
 
 ghost use Rattle.std.specs.Prelude.{◌≡◌, true, false, ◌≤◌, length};
@@ -38,12 +38,8 @@ fn say<W: Write>(out: &mut W, text: &[u8], told: Told) -> bool
     requires { told.end ≤ length text.now }
     ensures { told.over ≡ true → result ≡ false }
 {
-    let end = told.end;
-    let written = out.write_all(&text[..end]).is_ok();
-    if told.over {
-        return false;
-    }
-    written
+    let written = out.write_all(&text[..told.end]).is_ok();
+    written && !told.over
 }
 
 // The next byte's action; closing where the input has ended.

@@ -1,16 +1,16 @@
 -- What is printed of a file, as the code finds it.
 use Prim.Native.Char.{code}
-use Prim.Native.Nat.{ℕ, ◌-◌, ◌≤◌, ◌<◌}
+use Prim.Native.Nat.{ℕ, ◌≤◌, ◌<◌}
 use native.Mathlib.Omega.{arith}
-use mathlib.Core.Path.{◌≡◌, refl, sym, ap, ap₂, ◌∙◌}
+use mathlib.Core.Path.{◌≡◌, refl, sym, ap, ◌∙◌}
 use mathlib.Core.Bool.{Bool, true, false}
 use mathlib.Core.List.{[], ◌∷◌, ◌++◌, append_assoc}
 use lib.Dec.{ltb}
-use lib.ListN.{length, take, drop, length-append}
+use lib.ListN.{length, length-append}
 use borrow.Author.Tests.{lt-ltb, le-ltb, ltb-false}
 use Rattle.actions.specs.Sets.{ActionSet}
 use Rattle.spec_policy.specs.Bytes.{Bytes, Small}
-use Rattle.spec_policy.specs.Records.{node_count, node_place, step_place, node_bytes, step_bytes}
+use Rattle.spec_policy.specs.Records.{node_place, step_place, node_bytes, step_bytes}
 use Rattle.spec_policy.specs.Lists.{every}
 use Rattle.spec_policy.specs.Spots.{Fault, bare_fault}
 use Rattle.spec_check.specs.Layout.{CountsFit}
@@ -21,7 +21,6 @@ use Rattle.spec_check.proofs.Rows.{counts-fit}
 use Rattle.laws_check.proofs.Inside.{small-fault}
 use Rattle.spec_text.specs.Words.{ascii, newline, space}
 use Rattle.spec_text.specs.Reading.{records, read_text}
-use Rattle.spec_text.specs.Printing.{shown_records}
 use Rattle.spec_text.specs.Where.{fault_says}
 use Rattle.spec_text.specs.Files.{ThereAndBack}
 use Rattle.spec_text.proofs.ShownLaws.{shown-text}
@@ -33,7 +32,7 @@ use Rattle.text_append.specs.Added.{Added, Tells}
 use Rattle.text_append.proofs.AddedLaws.{named, tells, refusal-short}
 use Rattle.text_spot.proofs.ShortLaws.{fault-short}
 use Rattle.text_print.proofs.Lengths.{records-less}
-use Rattle.text_print.proofs.FileLaws.{pass_fits, nodes-few, steps-few, nodes-are, steps-are, nodes-small, steps-small}
+use Rattle.text_print.proofs.FileLaws.{pass_fits, nodes-few, steps-few, nodes-small, steps-small}
 use Rattle.guardtext.specs.Shown.{text_room, records_text, heading, refused_text, answered, shown, ReadsBack}
 
 -- ---- files whose counts are to be believed
@@ -41,11 +40,6 @@ use Rattle.guardtext.specs.Shown.{text_room, records_text, heading, refused_text
 pub refused-fits : {file : Bytes} {f : Fault} → check file ≡ refused f → 4 ≤ f.number → CountsFit file
 unfolding breaks
 refused-fits {file} {f} h l = counts-fit file ((refused-number file f h).lower-kept 3 (omega arith))
-
--- the records lie behind the front: `at` is where the steps' begin
-pub records-are : (file : Bytes) → CountsFit file → (at : ℕ) → at ≡ node_place (node_count file) → shown_records (take (at - 6) (drop 6 file)) (take (length file - at) (drop at file)) ≡ records_text file
-unfolding records_text
-records-are file fit at e = ap₂ shown_records (nodes-are file fit at e) (steps-are file fit at e)
 
 -- ---- which of the texts
 

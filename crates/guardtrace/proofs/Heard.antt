@@ -4,8 +4,7 @@ use Rattle.spec_turns.specs.Status.{Status}
 use Rattle.laws_turns.proofs.Cells.{status-back}
 use Rattle.spec_trace.specs.Traces as spec
 use Rattle.faults.proofs.Once.{same-meaning}
-use Rattle.trace_run.specs.declared.Report.{Report}
-use Rattle.trace_run.specs.Reports.{stop_value, report_value}
+use Rattle.trace_run.specs.Reports.{Report, stop_value, report_value}
 use Rattle.guardtrace.specs.Meaning.{stop_of, report_of}
 
 stop-back : (z : spec.Stop) → stop_of (stop_value z) ≡ z

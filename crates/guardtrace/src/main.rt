@@ -1,8 +1,8 @@
 // guardtrace: reads a policy and then its trace, a byte for each action, on standard input, and prints the tally of the run over it: how the run ended, how
 // often each step ran, and what was made of each action. A policy has at most 6,646 bytes and a trace at most 1,048,576; a longer trace is told, and not
 // run over its first part. Where 2,097,152 events do not suffice the run ends with 15. Proved is the text (`tell`): it is what `specs/Shown` says of the
-// input. Not proved, for no contract of the kit's can say it: that the bytes which `read` leaves are those that came in, and that the text handed to
-// `write` comes out. A read that fails counts as the end of the input.
+// input. That the bytes read are the reader's next ones is what `fill` of run_input says. Not proved: that standard input is such a reader, and that the
+// text handed to `write` comes out. A read that fails counts as the end of the input.
 #![tactic(auto)]
 
 ghost use Rattle.std.specs.Prelude.{◌≡◌, ◌≤◌, length, replicate};

@@ -7,28 +7,29 @@ ghost use Rattle.text_append.specs.Added.{Added, Tells};
 ghost use Rattle.guardtrace.specs.Shown.{ending, heading, reported, text_room};
 ghost use Rattle.guardtrace.specs.Meaning.{stop_of, report_of, most_ending, Tellable};
 
+use faults::Fault;
 use file_records::{FRONT_SIZE, node_place, nodes_of};
 use run_report::append_status;
 use text_append::{append, refuse};
 use text_tally::{append_numbered, print_tally};
 use trace_events::ACTION_COUNTS;
-use trace_run::{Report, Stop};
+use trace_run::Report;
 use turn_tally::STEP_COUNTS;
 
 // The refusal, if one stopped the run, and the line's end.
-fn append_stop(out: &mut [u8], at: usize, stop: Stop) -> usize
+fn append_stop(out: &mut [u8], at: usize, stop: Option<Fault>) -> usize
     ensures { Added out.old at (ending (stop_of stop)) out.new result }
 {
     match stop {
-        Stop::Unrefused => append(out, at, b"\n"),
-        Stop::RefusedWith(fault) => {
+        None => append(out, at, b"\n"),
+        Some(fault) => {
             let spaced = append(out, at, b" ");
             refuse(out, spaced, fault)
         }
     }
 }
 
-fn head(out: &mut [u8], stop: Stop, judged: usize, events: usize, root: u8) -> usize
+fn head(out: &mut [u8], stop: Option<Fault>, judged: usize, events: usize, root: u8) -> usize
     ensures { Added out.old 0 (heading (stop_of stop) judged events (status_of root)) out.new result }
 {
     let first = append_numbered(out, 0, b"judged ", judged as u64);
@@ -42,7 +43,7 @@ fn head(out: &mut [u8], stop: Stop, judged: usize, events: usize, root: u8) -> u
 fn tell_followed(
     room: &mut [u8],
     policy: &[u8],
-    stop: Stop,
+    stop: Option<Fault>,
     judged: usize,
     events: usize,
     root: u8,
@@ -79,9 +80,9 @@ pub fn tell_report(
         (reported policy.now (report_of report) (record { steps = steps.entry.now; actions = actions.now })) }
 {
     match report {
-        Report::Unopened(fault) => refuse(room, 0, fault),
-        Report::Followed(stop, judged, events, root) => {
-            tell_followed(room, policy, stop, judged, events, root, steps, actions)
-        }
+        Err(fault) => refuse(room, 0, fault),
+        Ok(run) => tell_followed(
+            room, policy, run.stop, run.judged, run.events, run.status, steps, actions,
+        ),
     }
 }

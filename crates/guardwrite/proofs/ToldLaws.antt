@@ -18,9 +18,11 @@ use Rattle.spec_text.specs.Forms.{size}
 use Rattle.spec_text.specs.Reading as text
 use Rattle.spec_text.specs.Reading.{records, bad_line, read_text, answer}
 use Rattle.text_measure.specs.Measures.{sized, sizes_read}
-use Rattle.text_read.specs.Transcribed.{Result, gave, transcribed}
-use Rattle.text_read.specs.declared.Answer.{Answer}
-use Rattle.text_read.specs.declared.Answer.TheVariants.{Read, BadLine, Short}
+use Rattle.std.specs.Prelude.{Result, Ok, Err}
+use Rattle.text_measure.specs.declared.Records.{Records}
+use Rattle.text_read.specs.Transcribed.{Transcript, gave, transcribed}
+use Rattle.text_read.specs.declared.ReadError.{ReadError}
+use Rattle.text_read.specs.declared.ReadError.TheVariants.{BadLine, Short}
 use Rattle.text_read.proofs.ReadLaws.{Counts, counts}
 use Rattle.spec_writer.specs.Writing as writing
 use Rattle.spec_writer.specs.Writing.{holds, Reply, wrote, refuses, writes, written, laid, after}
@@ -29,8 +31,6 @@ use Rattle.faults.specs.declared.Fault as declared
 use Rattle.faults.specs.Meaning.{spot_of, fault_of, fault_value}
 use Rattle.faults.proofs.Once.{value-means}
 use Rattle.file_writer.specs.Replies.{spoken, Gave}
-use Rattle.file_writer.specs.declared.Written.{Written}
-use Rattle.file_writer.specs.declared.Written.TheVariants.{Wrote, Refused}
 use Rattle.spec_writer.proofs.Files as files
 use Rattle.spec_writer.proofs.Files.{written-length, lendable-lent, by-check, taken-again}
 use Rattle.spec_writer.specs.Promises.{Why, unlent, broken, short}
@@ -105,13 +105,13 @@ made-short-over room t h = sym (rw (made_over, le-ltb most_text (length t) h))
 
 -- ---- the writer's answer
 
-module _ (t ns ss out : Bytes) (r : Written) (bytes : Bytes) (g : Gave (writes ns ss out) r bytes) where
-  wrote-is : (q : Reply) (n : ℕ) → Wrote n ≡ spoken q → q ≡ wrote n
+module _ (t ns ss out : Bytes) (r : Result ℕ declared.Fault) (bytes : Bytes) (g : Gave (writes ns ss out) r bytes) where
+  wrote-is : (q : Reply) (n : ℕ) → Ok n ≡ spoken q → q ≡ wrote n
   unfolding spoken
   wrote-is (wrote k) n e = let z : k ≡ n = cc in ap wrote z
   wrote-is (refuses k) n e = let z : ◌≡◌ {A = ℕ} 0 1 = cc in absurd (omega arith)
 
-  refused-is : (q : Reply) (f : declared.Fault) → Refused f ≡ spoken q → q ≡ refuses (fault_of f)
+  refused-is : (q : Reply) (f : declared.Fault) → Err f ≡ spoken q → q ≡ refuses (fault_of f)
   unfolding spoken
   refused-is (wrote k) f e = let z : ◌≡◌ {A = ℕ} 0 1 = cc in absurd (omega arith)
   refused-is (refuses k) f e = let z : fault_value k ≡ f = cc in ap refuses (sym (value-means f k z))
@@ -126,7 +126,7 @@ module _ (t ns ss out : Bytes) (r : Written) (bytes : Bytes) (g : Gave (writes n
           let z : length (take n bs) ≡ length bs = ap length (take_all n bs (omega arith)) in
           absurd (omega arith)
 
-  pub file-wrote : (n : ℕ) → r ≡ Wrote n → Telling bytes (File n) (filed t ns (writes ns ss out))
+  pub file-wrote : (n : ℕ) → r ≡ Ok n → Telling bytes (File n) (filed t ns (writes ns ss out))
   unfolding filed said_by end_of
   file-wrote n e =
       let q : (writes ns ss out).reply ≡ wrote n = wrote-is (writes ns ss out).reply n (sym e ∙ g.answer) in
@@ -141,10 +141,10 @@ module _ (t ns ss out : Bytes) (r : Written) (bytes : Bytes) (g : Gave (writes n
   small f (broken l h four ten) = small-fault (written ns ss) f h
   small f (short l h k) = bare-small 15 (omega arith)
 
-  pub file-small : (f : declared.Fault) → r ≡ Refused f → SmallFault (fault_of f)
+  pub file-small : (f : declared.Fault) → r ≡ Err f → SmallFault (fault_of f)
   file-small f e = small (fault_of f) (refused_why ns ss out (fault_of f) (refused-is (writes ns ss out).reply f (sym e ∙ g.answer))).1
 
-  pub file-refused : (f : declared.Fault) → r ≡ Refused f → message (blamed (spot_of f.spot) t ns (fault_of f)) ≡ filed t ns (writes ns ss out)
+  pub file-refused : (f : declared.Fault) → r ≡ Err f → message (blamed (spot_of f.spot) t ns (fault_of f)) ≡ filed t ns (writes ns ss out)
   unfolding filed fault_of
   file-refused f e =
       let q : (writes ns ss out).reply ≡ refuses (fault_of f) = refused-is (writes ns ss out).reply f (sym e ∙ g.answer) in
@@ -209,17 +209,40 @@ pub record Stand (t N S : Bytes) (n m : ℕ) (N' S' out : Bytes) : Type 0 where
   pub steps : length S' ≡ length S
   pub says : filed t (take (16 * n) N') (writes (take (16 * n) N') (take (12 * m) S') out) ≡ answered out t (read_text t)
 
+abbrev Answer : Type 0
+Answer = Result Records ReadError
+
+abbrev read : ℕ → ℕ → Answer
+read n m = Ok (record { nodes = n; steps = m })
+
+abbrev bad : ℕ → Answer
+bad l = Err (BadLine l)
+
+abbrev too_short : Answer
+too_short = Err Short
+
 -- the three answers differ
 abbrev code : Answer → ℕ
-code (Read n m) = 0
-code (BadLine l) = 1
-code Short = 2
+code (Ok r) = 0
+code (Err (BadLine l)) = 1
+code (Err Short) = 2
+
+same-read : {n m n' m' : ℕ} → read n m ≡ read n' m' → (n' ≡ n) × (m' ≡ m)
+same-read e = (sym (ap nodes-of e), sym (ap steps-of e))
+  where
+    nodes-of : Answer → ℕ
+    nodes-of (Ok r) = r.nodes
+    nodes-of (Err e) = 0
+
+    steps-of : Answer → ℕ
+    steps-of (Ok r) = r.steps
+    steps-of (Err e) = 0
 
 unlike : {A : Type 0} (a b : Answer) → (code a ≡ code b → ⊥) → a ≡ b → A
 unlike a b n e = absurd (n (ap code e))
 
 answer-of : {a b : Answer} {ns ss ns' ss' : Bytes} → gave a ns ss ≡ gave b ns' ss' → a ≡ b
-answer-of e = ap (λ (x : Result). x.answer) e
+answer-of e = ap (λ (x : Transcript). x.answer) e
 
 module _ (t N S N' S' out : Bytes) where
   -- whether the records find room
@@ -231,21 +254,21 @@ module _ (t N S N' S' out : Bytes) where
     fit : fits ns ss ≡ b
     answers : transcribed (records ns ss) N S ≡ gave a N' S'
 
-  given-false : {ns ss : Bytes} {a : Answer} → Given ns ss false a → Short ≡ a
+  given-false : {ns ss : Bytes} {a : Answer} → Given ns ss false a → too_short ≡ a
   unfolding transcribed
   given-false g = answer-of (rw (transcribed, g.fit) at g.answers)
 
-  given-true : {ns ss : Bytes} {a : Answer} → Given ns ss true a → gave (Read (length ns / 16) (length ss / 12)) (put N 0 ns) (put S 0 ss) ≡ gave a N' S'
+  given-true : {ns ss : Bytes} {a : Answer} → Given ns ss true a → gave (read (length ns / 16) (length ss / 12)) (put N 0 ns) (put S 0 ss) ≡ gave a N' S'
   unfolding transcribed size
   given-true g = rw (transcribed, g.fit) at g.answers
 
-  stand : (n m : ℕ) (ns ss : Bytes) → Given ns ss true (Read n m) → Stand t N S n m N' S' out
+  stand : (n m : ℕ) (ns ss : Bytes) → Given ns ss true (read n m) → Stand t N S n m N' S' out
   unfolding answered read_text answer sizes_read size
   stand n m ns ss g =
       let e = given-true g in
-      let u : Read (length ns / 16) (length ss / 12) ≡ Read n m = answer-of e in
-      let x : n ≡ length ns / 16 = cc in
-      let y : m ≡ length ss / 12 = cc in
+      let u : read (length ns / 16) (length ss / 12) ≡ read n m = answer-of e in
+      let x : n ≡ length ns / 16 = (same-read u).0 in
+      let y : m ≡ length ss / 12 = (same-read u).1 in
       let w : Counts t N S n m = counts t N S n m (ap₂ sized x y ∙ sym (ap sizes_read g.is)) in
       let v : records w.nodes w.steps ≡ records ns ss = sym (ap answer w.reads) ∙ g.is in
       let p : w.nodes ≡ ns = cc in
@@ -255,8 +278,8 @@ module _ (t N S N' S' out : Bytes) where
       let f : T (fits ns ss) = of-yes (fits ns ss) g.fit in
       let h = leb→le (length ns) (length N) (and_left (leb (length ns) (length N)) (leb (length ss) (length S)) f) in
       let k = leb→le (length ss) (length S) (and_right (leb (length ns) (length N)) (leb (length ss) (length S)) f) in
-      let N-is : N' ≡ put N 0 ns = sym (ap (λ (r : Result). r.nodes) e) in
-      let S-is : S' ≡ put S 0 ss = sym (ap (λ (r : Result). r.steps) e) in
+      let N-is : N' ≡ put N 0 ns = sym (ap (λ (r : Transcript). r.nodes) e) in
+      let S-is : S' ≡ put S 0 ss = sym (ap (λ (r : Transcript). r.steps) e) in
       record {
         few-nodes = omega arith;
         few-steps = omega arith;
@@ -265,32 +288,32 @@ module _ (t N S N' S' out : Bytes) where
         says = ap₂ (λ (x y : Bytes). filed t x (writes x y out)) (taken-again N a N-is) (taken-again S b S-is) ∙ sym (ap (answered out t) g.is);
       }
 
-  by_answer : {C : Type 0} (a : Answer) → ((l : ℕ) → read_text t ≡ bad_line l → BadLine l ≡ a → C) → ((ns ss : Bytes) (b : Bool) → Given ns ss b a → C)
+  by_answer : {C : Type 0} (a : Answer) → ((l : ℕ) → read_text t ≡ bad_line l → bad l ≡ a → C) → ((ns ss : Bytes) (b : Bool) → Given ns ss b a → C)
       → transcribed (read_text t) N S ≡ gave a N' S' → C
   unfolding transcribed
-  by_answer {C} a bad good = go (read_text t) refl
+  by_answer {C} a wrong good = go (read_text t) refl
     where
       go : (r : text.Read) → read_text t ≡ r → transcribed r N S ≡ gave a N' S' → C
-      go (bad_line l) q e = bad l q (answer-of e)
+      go (bad_line l) q e = wrong l q (answer-of e)
       go (records ns ss) q e = good ns ss (fits ns ss) (record { is = q; fit = refl; answers = e })
 
-  pub was_read : (n m : ℕ) → transcribed (read_text t) N S ≡ gave (Read n m) N' S' → Stand t N S n m N' S' out
-  was_read n m = by_answer (Read n m) (λ l q e. unlike (BadLine l) (Read n m) (λ z. omega arith) e) go
+  pub was_read : (n m : ℕ) → transcribed (read_text t) N S ≡ gave (read n m) N' S' → Stand t N S n m N' S' out
+  was_read n m = by_answer (read n m) (λ l q e. unlike (bad l) (read n m) (λ z. omega arith) e) go
     where
-      go : (ns ss : Bytes) (b : Bool) → Given ns ss b (Read n m) → Stand t N S n m N' S' out
+      go : (ns ss : Bytes) (b : Bool) → Given ns ss b (read n m) → Stand t N S n m N' S' out
       go ns ss true g = stand n m ns ss g
-      go ns ss false g = unlike Short (Read n m) (λ z. omega arith) (given-false g)
+      go ns ss false g = unlike too_short (read n m) (λ z. omega arith) (given-false g)
 
-  pub was-bad : (l : ℕ) → transcribed (read_text t) N S ≡ gave (BadLine l) N' S' → message (line_says l (fault_in t l)) ≡ answered out t (read_text t)
+  pub was-bad : (l : ℕ) → transcribed (read_text t) N S ≡ gave (bad l) N' S' → message (line_says l (fault_in t l)) ≡ answered out t (read_text t)
   unfolding answered
-  was-bad l = by_answer (BadLine l) (λ k q e. said k e ∙ sym (ap (answered out t) q)) go
+  was-bad l = by_answer (bad l) (λ k q e. said k e ∙ sym (ap (answered out t) q)) go
     where
-      said : (k : ℕ) → BadLine k ≡ BadLine l → message (line_says l (fault_in t l)) ≡ message (line_says k (fault_in t k))
+      said : (k : ℕ) → bad k ≡ bad l → message (line_says l (fault_in t l)) ≡ message (line_says k (fault_in t k))
       said k e = let z : l ≡ k = cc in ap (λ (x : ℕ). message (line_says x (fault_in t x))) z
 
-      go : (ns ss : Bytes) (b : Bool) → Given ns ss b (BadLine l) → message (line_says l (fault_in t l)) ≡ answered out t (read_text t)
-      go ns ss true g = unlike (Read (length ns / 16) (length ss / 12)) (BadLine l) (λ z. omega arith) (answer-of (given-true g))
-      go ns ss false g = unlike Short (BadLine l) (λ z. omega arith) (given-false g)
+      go : (ns ss : Bytes) (b : Bool) → Given ns ss b (bad l) → message (line_says l (fault_in t l)) ≡ answered out t (read_text t)
+      go ns ss true g = unlike (read (length ns / 16) (length ss / 12)) (bad l) (λ z. omega arith) (answer-of (given-true g))
+      go ns ss false g = unlike too_short (bad l) (λ z. omega arith) (given-false g)
 
   module _ (nodes : node_room ≡ length N) (steps : step_room ≡ length S) where
     -- more than fits is more than a file may have
@@ -306,10 +329,10 @@ module _ (t N S N' S' out : Bytes) where
             let b = le-leb (length ss) (length S) (omega (arith, l.step-bytes, l.few-steps)) in
             true-not-false (ap₂ (λ (x y : Bool). x && y) a b) k
 
-    pub was-short : transcribed (read_text t) N S ≡ gave Short N' S' → message (refusal (bare_fault 3)) ≡ answered out t (read_text t)
+    pub was-short : transcribed (read_text t) N S ≡ gave too_short N' S' → message (refusal (bare_fault 3)) ≡ answered out t (read_text t)
     unfolding answered
-    was-short = by_answer Short (λ l q e. unlike (BadLine l) Short (λ z. omega arith) e) go
+    was-short = by_answer too_short (λ l q e. unlike (bad l) too_short (λ z. omega arith) e) go
       where
-        go : (ns ss : Bytes) (b : Bool) → Given ns ss b Short → message (refusal (bare_fault 3)) ≡ answered out t (read_text t)
-        go ns ss true g = unlike (Read (length ns / 16) (length ss / 12)) Short (λ z. omega arith) (answer-of (given-true g))
+        go : (ns ss : Bytes) (b : Bool) → Given ns ss b too_short → message (refusal (bare_fault 3)) ≡ answered out t (read_text t)
+        go ns ss true g = unlike (read (length ns / 16) (length ss / 12)) too_short (λ z. omega arith) (answer-of (given-true g))
         go ns ss false g = too_many ns ss g.fit ∙ sym (ap (answered out t) g.is)

@@ -1,7 +1,7 @@
 // guardwrite: reads a policy's text on standard input. It writes the policy file to standard output, or one line that says what is wrong to standard
-// error, and then nothing to standard output. Proved is what is told of the bytes read (`told`): it is what `specs/Said` says. Not proved, for no
-// contract of the kit's can say it: that the bytes which `read` leaves are those that came in, and that those handed to `write` come out. A read that
-// fails counts as the end of the input.
+// error, and then nothing to standard output. Proved is what is told of the bytes read (`told`): it is what `specs/Said` says. That the bytes read
+// are the reader's next ones is what `fill` of run_input says. Not proved: that standard input is such a reader, and that the bytes handed to `write`
+// come out. A read that fails counts as the end of the input.
 #![tactic(auto)]
 
 ghost use Rattle.std.specs.Prelude.{◌≡◌, ◌+◌, length};
@@ -33,8 +33,7 @@ fn main(rt: HostRuntime) -> io::Result<()> {
     let mut text = text_room();
     let mut out = file_room();
     let end = read_full(&mut rt.stdin(), &mut text);
-    let told = tell(&text[..end], &mut out);
-    match told {
+    match tell(&text[..end], &mut out) {
         Told::File(length) => rt.stdout().write_all(&out[..length]),
         Told::Message(length) => rt.stderr().write_all(&out[..length]),
     }

@@ -10,12 +10,12 @@ ghost use Rattle.text_fault.specs.Expected.{line_says};
 ghost use Rattle.guardwrite.specs.Said.{blamed, filed, answered, most_text, too_long, node_room, step_room, out_room, made};
 ghost use Rattle.guardwrite.specs.Telling.{Telling};
 
-use faults::{Fault, Spot, bare_fault};
+use faults::{Fault, Refusal};
 use file_records::{MOST_NODES, MOST_STEPS, NODE_SIZE, STEP_SIZE};
-use file_writer::{Written, write};
+use file_writer::write;
 use text_append::{append, refuse};
 use text_fault::{bad_line, begin, line_count};
-use text_read::{Answer, read};
+use text_read::{ReadError, read};
 use text_spot::{append_fault, spot_line};
 
 // How many bytes at the start of the buffer are the file, or the message.
@@ -41,10 +41,9 @@ fn refused(text: &[u8], nodes: &[u8], fault: Fault, out: &mut [u8]) -> usize
     requires { SmallFault (fault_of fault) × (out_room ≤ length out.old) }
     ensures { Tells out.new result (blamed (spot_of fault.spot) text.now nodes.now (fault_of fault)) }
 {
-    let spot = fault.spot;
-    match spot {
-        Spot::Nowhere => refuse(out, 0, fault),
-        Spot::Record(_) => blame(text, nodes, fault, out),
+    match fault.spot {
+        None => refuse(out, 0, fault),
+        Some(_) => blame(text, nodes, fault, out),
     }
 }
 
@@ -54,10 +53,9 @@ fn file(text: &[u8], nodes: &[u8], steps: &[u8], out: &mut [u8]) -> Told
     ensures { Telling out.new result
         (filed text.now nodes.now (writes nodes.now steps.now out.old)) }
 {
-    let written = write(nodes, steps, out);
-    match written {
-        Written::Wrote(length) => Told::File(length as usize),
-        Written::Refused(fault) => Told::Message(refused(text, nodes, fault, out)),
+    match write(nodes, steps, out) {
+        Ok(length) => Told::File(usize::from(length)),
+        Err(fault) => Told::Message(refused(text, nodes, fault, out)),
     }
 }
 
@@ -86,11 +84,17 @@ fn fill(text: &[u8], nodes: &mut [u8], steps: &mut [u8], out: &mut [u8]) -> Told
     requires { (node_room ≡ length nodes.old) × (step_room ≡ length steps.old) × (out_room ≤ length out.old) }
     ensures { Telling out.new result (answered out.old text.now (read_text text.now)) }
 {
-    let answer = read(text, nodes, steps);
-    match answer {
-        Answer::Read(n, m) => file(text, &nodes[..NODE_SIZE * n], &steps[..STEP_SIZE * m], out),
-        Answer::BadLine(line) => Told::Message(bad_line(text, line, out)),
-        Answer::Short => Told::Message(refuse(out, 0, bare_fault(3))),
+    match read(text, nodes, steps) {
+        Ok(found) => file(
+            text,
+            &nodes[..NODE_SIZE * found.nodes],
+            &steps[..STEP_SIZE * found.steps],
+            out,
+        ),
+        Err(error) => match error {
+            ReadError::BadLine(line) => Told::Message(bad_line(text, line, out)),
+            ReadError::Short => Told::Message(refuse(out, 0, Refusal::Counts.bare())),
+        },
     }
 }
 

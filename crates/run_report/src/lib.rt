@@ -17,7 +17,7 @@ ghost use Rattle.run_report.specs.Speaks.{text_room, Speaks};
 use call_answer::Call;
 use faults::Fault;
 use text_append::{append, append_number, refuse};
-use turn_state::{ENDED, ENDED_LEFT, ENDED_RIGHT, HALTED, RUNNING};
+use turn_state::{ENDED, ENDED_LEFT, ENDED_RIGHT, HALTED, RUNNING, is_halted};
 use turn_told::{EVENT_ACCEPTED, EVENT_SUPPRESSED};
 
 // Where the text ends, and whether it is the run's last.
@@ -30,6 +30,7 @@ pub struct Told {
 // ---- lines
 
 // "S is running, ended, left, right or halted"; the root is never dropped
+#[tactic(auto, unfolding(crate::specs::Lines::word, spec_turns::specs::Status::status_of, spec_text::specs::Words::ascii))]
 pub fn append_status(out: &mut [u8], at: usize, s: u8) -> usize
     ensures { Added out.old at (word (status_of s)) out.new result }
 {
@@ -52,6 +53,7 @@ fn append_line(out: &mut [u8], at: usize, what: &[u8], s: u8) -> usize
 }
 
 // "`acc a`, `sup a` or `ins a`"
+#[tactic(auto, unfolding(crate::specs::Lines::kind, spec_text::specs::Words::ascii))]
 fn kind(k: u8) -> [u8; 4]
     ensures { result ≡ kind k }
 {
@@ -65,9 +67,8 @@ fn kind(k: u8) -> [u8; 4]
 fn append_event(out: &mut [u8], at: usize, k: u8, a: u8) -> usize
     ensures { Added out.old at (line (kind k) (decimal a)) out.new result }
 {
-    let what = kind(k);
-    let named = append(out, at, &what);
-    let end = append_number(out, named, a as u64);
+    let named = append(out, at, &kind(k));
+    let end = append_number(out, named, u64::from(a));
     append(out, end, b"\n")
 }
 
@@ -77,10 +78,8 @@ fn append_events(out: &mut [u8], at: usize, events: &[u8], count: usize) -> usiz
     ensures { Added out.old at (lines count events.now) out.new result }
 {
     let mut end = at;
-    let mut i = 0;
-    while i < count {
+    for i in 0..count {
         end = append_event(out, end, events[2 * i], events[2 * i + 1]);
-        i += 1;
     }
     end
 }
@@ -88,25 +87,22 @@ fn append_events(out: &mut [u8], at: usize, events: &[u8], count: usize) -> usiz
 // ---- calls
 
 // "On a halt it stops reading and prints `close halted`."
+#[tactic(auto, unfolding(call_answer::specs::Requests::asked, crate::specs::Said::is_last))]
 fn is_last(request: Call, s: u8) -> bool
     ensures { result ≡ is_last (asked request) (status_of s) }
 {
     match request {
-        Call::Open => s == HALTED,
-        Call::Offer(_) => s == HALTED,
+        Call::Open | Call::Offer(_) => is_halted(s),
         Call::Close => true,
     }
 }
 
 // "A refused policy prints only `refused N`; a refused action prints that line and goes on."
+#[tactic(auto, unfolding(call_answer::specs::Requests::asked, crate::specs::Said::last_if_refused))]
 fn last_if_refused(request: Call) -> bool
     ensures { result ≡ last_if_refused (asked request) }
 {
-    match request {
-        Call::Open => true,
-        Call::Offer(_) => false,
-        Call::Close => true,
-    }
+    !matches!(request, Call::Offer(_))
 }
 
 // "those of opening after the open line"
@@ -115,8 +111,7 @@ fn begin(out: &mut [u8], request: Call, s: u8) -> usize
 {
     match request {
         Call::Open => append_line(out, 0, b"open ", s),
-        Call::Offer(_) => 0,
-        Call::Close => 0,
+        Call::Offer(_) | Call::Close => 0,
     }
 }
 
@@ -145,6 +140,7 @@ pub fn answered(out: &mut [u8], events: &[u8], request: Call, count: usize, s: u
 }
 
 // How long the text is, the caller knows: a refusal's number and its record's are small.
+#[tactic(auto, unfolding(crate::specs::Said::said), using(crate::proofs::SpokenLaws::alone))]
 pub fn refused(out: &mut [u8], request: Call, fault: Fault) -> Told
     ensures { (room : Bytes) → length (refusal (fault_of fault)) ≤ text_room
         → Speaks (said (asked request) (refuses (fault_of fault)) room) out.old out.new result }

@@ -1,7 +1,7 @@
 // Text put into a lent buffer, piece after piece. As much of it is written as there is room for, so on no room a text is measured.
 #![tactic(auto)]
 
-ghost use Rattle.std.specs.Prelude.{◌≡◌, [], ◌∷◌, ◌<◌, min};
+ghost use Rattle.std.specs.Prelude.{◌≡◌, [], ◌∷◌, ◌<◌};
 ghost use Rattle.spec_text.specs.Numerals.{digit, decimal};
 ghost use Rattle.spec_text.specs.Forms.{actions};
 ghost use Rattle.spec_text.specs.Printing.{listing, spaced, argument};
@@ -9,30 +9,20 @@ ghost use Rattle.text_append.specs.Added.{moved, Added, led};
 ghost use Rattle.text_append.specs.Refusal.{spot_words, refusal};
 ghost use Rattle.faults.specs.Meaning.{spot_of, fault_of};
 
-use actions::ActionSet;
-use faults::{Fault, Spot};
+use actions::{ActionSet, LAST_ACTION};
+use faults::Fault;
 
-const LIMIT: usize = 9223372036854775808;
-
-pub fn least(a: usize, b: usize) -> usize
-    ensures { result ≡ min a b }
-{
-    if a <= b { a } else { b }
-}
+// No buffer is as long. A place further on is as good as this one.
+const LIMIT: usize = 1 << 63;
 
 fn reach(at: usize, more: usize) -> usize
     ensures { result ≡ moved at more }
 {
     if more == 0 {
-        return at;
+        at
+    } else {
+        at.saturating_add(more).min(LIMIT)
     }
-    if LIMIT <= at {
-        return LIMIT;
-    }
-    if LIMIT - at <= more {
-        return LIMIT;
-    }
-    at + more
 }
 
 // Puts the text at the place, and answers where it ends.
@@ -42,7 +32,7 @@ pub fn append(out: &mut [u8], at: usize, text: &[u8]) -> usize
     let end = reach(at, text.len());
     let room = out.len();
     if at < room {
-        let part = least(text.len(), room - at);
+        let part = text.len().min(room - at);
         out[at..at + part].copy_from_slice(&text[..part]);
     }
     end
@@ -52,8 +42,7 @@ fn append_digit(out: &mut [u8], at: usize, n: u64) -> usize
     requires { n < 10 }
     ensures { Added out.old at (digit n ∷ []) out.new result }
 {
-    let digit = [48 + n as u8];
-    append(out, at, &digit)
+    append(out, at, &[b'0' + n as u8])
 }
 
 // The number in decimal, its first digits before its last.
@@ -73,12 +62,14 @@ fn append_member(out: &mut [u8], at: usize, set: ActionSet, a: u8, first: bool) 
 {
     if set.has(a) {
         if first {
-            return append_number(out, at, a as u64);
+            append_number(out, at, u64::from(a))
+        } else {
+            let spaced = append(out, at, b" ");
+            append_number(out, spaced, u64::from(a))
         }
-        let spaced = append(out, at, b" ");
-        return append_number(out, spaced, a as u64);
+    } else {
+        at
     }
-    at
 }
 
 fn append_members(out: &mut [u8], at: usize, set: ActionSet) -> usize
@@ -86,11 +77,9 @@ fn append_members(out: &mut [u8], at: usize, set: ActionSet) -> usize
 {
     let mut end = at;
     let mut first = true;
-    let mut a = 0;
-    while a < 64 {
+    for a in 0..=LAST_ACTION {
         end = append_member(out, end, set, a, first);
-        first = first & !set.has(a);
-        a += 1;
+        first &= !set.has(a);
     }
     end
 }
@@ -105,14 +94,14 @@ pub fn append_set(out: &mut [u8], at: usize, set: ActionSet) -> usize
 }
 
 // " at P", if there is a record.
-fn append_spot(out: &mut [u8], at: usize, spot: Spot) -> usize
+fn append_spot(out: &mut [u8], at: usize, spot: Option<u16>) -> usize
     ensures { Added out.old at (spot_words (spot_of spot)) out.new result }
 {
     match spot {
-        Spot::Nowhere => append(out, at, b""),
-        Spot::Record(p) => {
+        None => at,
+        Some(p) => {
             let named = append(out, at, b" at ");
-            append_number(out, named, p as u64)
+            append_number(out, named, u64::from(p))
         }
     }
 }
@@ -120,9 +109,8 @@ fn append_spot(out: &mut [u8], at: usize, spot: Spot) -> usize
 pub fn refuse(out: &mut [u8], at: usize, fault: Fault) -> usize
     ensures { Added out.old at (refusal (fault_of fault)) out.new result }
 {
-    let spot = fault.spot;
     let named = append(out, at, b"refused ");
-    let numbered = append_number(out, named, fault.number as u64);
-    let placed = append_spot(out, numbered, spot);
+    let numbered = append_number(out, named, u64::from(fault.number));
+    let placed = append_spot(out, numbered, fault.spot);
     append(out, placed, b"\n")
 }

@@ -1,50 +1,21 @@
 -- Laws of what was expected in a line.
 use Prim.Native.Nat.{ℕ, zero, suc, ◌+◌, ◌≤◌, ◌<◌}
 use native.Mathlib.Omega.{arith}
-use mathlib.Core.Path.{◌≡◌, refl, sym, ap, ap₂, ◌∙◌}
-use mathlib.Core.Bool.{Bool, true, false}
-use mathlib.Core.List.{List, []}
+use mathlib.Core.Path.{◌≡◌, refl, sym, ap₂}
+use mathlib.Core.Bool.{Bool}
+use mathlib.Core.List.{List}
 use mathlib.Core.Option.{Option, none, some}
-use lib.Dec.{ltb, leb, leb→le, lit≤}
+use lib.Dec.{leb, leb→le, lit≤}
 use lib.ListN.{length, length-append}
-use lib.Seq.{slice, slice_empty}
-use borrow.Author.Tests.{le-ltb, eq-eqb, ne_eqb, ltb-false}
 use Rattle.spec_policy.specs.Bytes.{Bytes}
 use Rattle.spec_policy.specs.Lists.{every}
 use Rattle.spec_text.specs.Words.{ascii, same_bytes, words}
-use Rattle.spec_text.specs.Forms.{Fields, Form, forms, named}
+use Rattle.spec_text.specs.Forms.{Form, forms, named}
 use Rattle.spec_text.specs.Reading.{Line, nothing, unreadable, entry, line_of}
 use Rattle.spec_text.proofs.TableLaws.{first_passes}
-use Rattle.text_words.specs.Scanned.{Next, word_and}
 use Rattle.text_forms.specs.Usage.{usages, usage}
-use Rattle.text_forms.specs.Table.{form_count}
-use Rattle.text_line.specs.Lines.{line_meant}
-use Rattle.text_measure.proofs.CountLaws.{meant-entry}
 use Rattle.text_append.proofs.AddedLaws.{decimal-below}
 use Rattle.text_fault.specs.Expected.{heading, line_says, expected, first_word, astray, fault, room_before, line_number, fault_in}
-
-pub first-is : (line : Bytes) (start end : ℕ) → Next line 0 start end → first_word (words line) ≡ slice start end line
-unfolding word_and first_word
-first-is line start end n = go (ltb start end) refl
-  where
-    go : (b : Bool) → ltb start end ≡ b → first_word (words line) ≡ slice start end line
-    go true e = ap first_word n.is ∙ rw (word_and, e)
-    go false e =
-        let z : end ≡ start = omega (arith, n.ordered, ltb-false start end e) in
-        ap first_word n.is ∙ rw (word_and, e) (sym (ap (λ (k : ℕ). slice start k line) z ∙ slice_empty start line))
-
-module _ (ws : List Bytes) (form : ℕ) (xs : Fields) (is : line_of ws ≡ line_meant form xs) (room : ℕ) where
-  pub fault-none : form ≡ form_count → fault (line_of ws) ws room ≡ []
-  unfolding fault line_meant
-  fault-none e = ap (λ (l : Line). fault l ws room) is ∙ rw (line_meant, le-ltb form form_count (omega arith), eq-eqb form form_count e)
-
-  pub fault-step : form < form_count → fault (line_of ws) ws room ≡ astray room
-  unfolding fault
-  fault-step h = ap (λ (l : Line). fault l ws room) (is ∙ meant-entry form xs h)
-
-  pub fault-bad : form_count < form → fault (line_of ws) ws room ≡ expected (named (first_word ws))
-  unfolding fault line_meant
-  fault-bad h = ap (λ (l : Line). fault l ws room) is ∙ rw (line_meant, le-ltb form form_count (omega arith), ne_eqb form form_count (λ e. omega arith))
 
 pub astray-none : (room : ℕ) → room ≡ 0 → ascii "a leaf before its steps" ≡ astray room
 unfolding astray

@@ -2,39 +2,31 @@
 use Prim.Native.Nat.{ℕ, zero, suc, ◌-◌, ◌≤◌, ◌<◌}
 use native.Mathlib.Omega.{arith}
 use mathlib.Core.Path.{◌≡◌, refl, sym, ap, ◌∙◌}
-use mathlib.Core.Bool.{Bool, true, false}
 use mathlib.Core.List.{List, [], ◌∷◌}
-use lib.Dec.{ltb, eqb}
 use lib.ListN.{length, take, drop, drop_of_length-le}
 use lib.Seq.{take-nil}
-use borrow.Author.Tests.{ltb-true}
 use Rattle.spec_policy.specs.Bytes.{Bytes}
 use Rattle.spec_text.specs.Words.{lines, lines_from, words, words_from, ended}
 use Rattle.spec_text.specs.Forms.{Sort, node, step, Fields}
 use Rattle.spec_text.specs.Reading.{Line, nothing, unreadable, entry, line_of, read_lines}
 use Rattle.text_forms.specs.Table.{form_count, node_forms, form_at}
 use Rattle.text_forms.proofs.FormLaws.{form-node, form-step}
+use Rattle.text_line.specs.declared.Line as code
 use Rattle.text_line.specs.Lines.{line_meant}
 use Rattle.text_measure.specs.Measures.{ReadsOn}
 use Rattle.text_measure.proofs.LineLaws.{read-on}
-use Rattle.text_measure.proofs.CountLaws.{meant-entry}
 use Rattle.text_fault.specs.Expected.{room_after}
 
 -- ---- one line
 
 module _ (form room : ℕ) (xs : Fields) (ls : List Line) where
-  pub room-node : (r : ℕ) → form < node_forms → r ≡ (form_at form).room → room_after room (line_meant form xs ∷ ls) ≡ room_after r ls
+  pub room-node : (r : ℕ) → form < node_forms → r ≡ (form_at form).room → room_after room (entry (form_at form) xs ∷ ls) ≡ room_after r ls
   unfolding room_after
-  room-node r h e = ap (λ (l : Line). room_after room (l ∷ ls)) (meant-entry form xs (omega arith)) ∙ rw (form-node form h, room_after) (ap (λ (y : ℕ). room_after y ls) (sym e))
+  room-node r h e = rw (form-node form h, room_after) (ap (λ (y : ℕ). room_after y ls) (sym e))
 
-  pub room-other : node_forms ≤ form → room_after room (line_meant form xs ∷ ls) ≡ room_after room ls
-  unfolding room_after line_meant
-  room-other l = go (ltb form form_count) refl (eqb form form_count) refl
-    where
-      go : (a : Bool) → ltb form form_count ≡ a → (b : Bool) → eqb form form_count ≡ b → room_after room (line_meant form xs ∷ ls) ≡ room_after room ls
-      go true p b q = ap (λ (l : Line). room_after room (l ∷ ls)) (meant-entry form xs (ltb-true form form_count p)) ∙ rw (form-step form l (ltb-true form form_count p), room_after)
-      go false p true q = rw (line_meant, p, q)
-      go false p false q = rw (line_meant, p, q)
+  pub room-step : node_forms ≤ form → form < form_count → room_after room (entry (form_at form) xs ∷ ls) ≡ room_after room ls
+  unfolding room_after
+  room-step l h = rw (form-step form l h, room_after)
 
 -- ---- the lines before one
 
@@ -59,12 +51,12 @@ first_taken l ls zero h = absurd (omega arith)
 first_taken l ls (suc k) h = let z : k ≡ suc k - 1 = omega arith in ap (λ (j : ℕ). l ∷ take j ls) z
 
 module _ (text : Bytes) (at room k : ℕ) where
-  pub room-on : (form : ℕ) (fields : Fields) (next : ℕ) → ReadsOn text at form fields next → 1 ≤ k → (r : ℕ)
-      → ((xs : Fields) (ls : List Line) → room_after room (line_meant form xs ∷ ls) ≡ room_after r ls)
+  pub room-on : (l : code.Line) (next : ℕ) → ReadsOn text at l next → 1 ≤ k → (r : ℕ)
+      → ((ls : List Line) → room_after room (line_meant l ∷ ls) ≡ room_after r ls)
       → room_after room (take k (read_lines (drop at text))) ≡ room_after r (take (k - 1) (read_lines (drop next text)))
-  room-on form fields next on h r e =
-      read-on (λ ls. room_after room (take k ls)) (λ l. room-last room l k) text at next (line_meant form fields) on.on
-      ∙ ap (room_after room) (first_taken (line_meant form fields) (read_lines (drop next text)) k h) ∙ e fields (take (k - 1) (read_lines (drop next text)))
+  room-on l next on h r e =
+      read-on (λ ls. room_after room (take k ls)) (λ m. room-last room m k) text at next (line_meant l) on.on
+      ∙ ap (room_after room) (first_taken (line_meant l) (read_lines (drop next text)) k h) ∙ e (take (k - 1) (read_lines (drop next text)))
 
   pub room-end : length text ≤ at → room_after room (take k (read_lines (drop at text))) ≡ room
   unfolding room_after read_lines lines lines_from words words_from ended line_of

@@ -7,10 +7,11 @@ use mathlib.Core.List.{List, [], ◌∷◌, ◌++◌}
 use lib.Dec.{eqb}
 use lib.ListN.{length, get_or, take, drop, drop_of_length-le}
 use lib.Seq.{slice}
-use borrow.Author.Tests.{eq-eqb, ne_eqb, eqb-true, eqb-false}
+use borrow.Author.Tests.{eqb-true, eqb-false}
+use Rattle.std.specs.Prelude.{count_by, cond}
+use Rattle.std.proofs.lemmas.List.Recursion.{is_count_by}
 use Rattle.spec_policy.specs.Bytes.{Bytes}
 use Rattle.spec_text.specs.Words.{newline, lines_from, lines}
-use Rattle.text_words.proofs.ScanLaws.{from-here}
 use Rattle.text_measure.specs.Measures.{LineEnds}
 use Rattle.text_words.proofs.ScanLaws.{part_slice}
 use Rattle.text_measure.proofs.LineLaws.{first-of-more, last_line}
@@ -27,22 +28,30 @@ same_count (b ∷ bs) l m = go (eqb b newline) refl (same_count bs)
     go true e ih = rw (lines_from, e)
     go false e ih = rw (lines_from, e) (ih (l ++ (b ∷ [])) (m ++ (b ∷ [])))
 
-module _ (b : ℕ) (bs : Bytes) where
-  pub adds_one : b ≡ newline → length (lines (b ∷ bs)) ≡ 1 + length (lines bs)
-  unfolding lines lines_from
-  adds_one e = rw (lines_from, eq-eqb b newline e) (omega arith)
+-- so many lines are ended
+ended_lines : Bytes → ℕ
+ended_lines bs = length (lines bs) - 1
 
-  pub adds_none : (b ≡ newline → ⊥) → length (lines (b ∷ bs)) ≡ 0 + length (lines bs)
-  unfolding lines lines_from
-  adds_none n = rw (lines_from, ne_eqb b newline n) (omega (arith, same_count bs (b ∷ []) []))
+some-line : (bs l : Bytes) → 1 ≤ length (lines_from l bs)
+unfolding lines_from
+some-line [] l = omega arith
+some-line (b ∷ bs) l = go (eqb b newline) refl (λ m. some-line bs m)
+  where
+    go : (x : Bool) → eqb b newline ≡ x → ((m : Bytes) → 1 ≤ length (lines_from m bs)) → 1 ≤ length (lines_from l (b ∷ bs))
+    go true e ih = rw (lines_from, e) (omega arith)
+    go false e ih = rw (lines_from, e) (ih (l ++ (b ∷ [])))
 
-module _ (text : Bytes) (i : ℕ) where
-  pub count-on : i < length text → (r : ℕ) → ((bs : Bytes) → length (lines (get_or text i 0 ∷ bs)) ≡ r + length (lines bs)) → length (lines (drop i text)) ≡ r + length (lines (drop (i + 1) text))
-  count-on h r e = ap (λ (bs : Bytes). length (lines bs)) (from-here text i h) ∙ e (drop (i + 1) text)
+ended_more : (b : ℕ) (bs : Bytes) → ended_lines (b ∷ bs) ≡ cond (eqb b newline) (1 + ended_lines bs) (ended_lines bs)
+unfolding ended_lines lines lines_from
+ended_more b bs = go (eqb b newline) refl
+  where
+    go : (x : Bool) → eqb b newline ≡ x → ended_lines (b ∷ bs) ≡ cond x (1 + ended_lines bs) (ended_lines bs)
+    go true e = let l = some-line bs [] in rw (lines_from, e) (omega (arith, l))
+    go false e = rw (lines_from, e) (ap (λ (n : ℕ). n - 1) (same_count bs (b ∷ []) []))
 
-  pub count-end : length text ≤ i → length (lines (drop i text)) ≡ 1
-  unfolding lines lines_from
-  count-end h = ap (λ (bs : Bytes). length (lines bs)) (drop_of_length-le text {i = i} h)
+pub counted-lines : (bs : Bytes) → count_by (λ b. eqb b newline) bs + 1 ≡ length (lines bs)
+unfolding ended_lines lines lines_from
+counted-lines bs = let l = some-line bs [] in let e = is_count_by ended_lines (λ b. eqb b newline) refl ended_more bs in omega (arith, l, e)
 
 -- ---- where a line begins
 

@@ -1,25 +1,20 @@
 -- Laws of what is expected: the usage of a form, or the first words of all.
-use Prim.Native.Nat.{ℕ, ◌+◌, ◌≤◌, ◌<◌}
+use Prim.Native.Nat.{ℕ, ◌+◌}
 use native.Mathlib.Numerals.{add-one}
-use mathlib.Core.Path.{◌≡◌, sym, ap, ◌∙◌}
+use mathlib.Core.Option.{none}
+use mathlib.Core.Path.{◌≡◌, refl, sym, ap, ◌∙◌}
 use mathlib.Core.List.{◌++◌}
 use borrow.Author.Tests.{eq-eqb, ne_eqb}
 use Rattle.spec_policy.specs.Bytes.{Bytes}
 use Rattle.spec_text.specs.Words.{ascii}
 use Rattle.spec_text.specs.Forms.{forms}
-use Rattle.text_forms.specs.Usage.{usage}
-use Rattle.text_forms.specs.Table.{form_count, no_form, forms_from, form_at}
-use Rattle.text_forms.proofs.FormLaws.{form-some, form-none}
+use Rattle.text_forms.specs.Table.{form_count, no_form, form_at}
 use Rattle.text_fault.specs.Expected.{expected}
 use Rattle.text_fault.specs.Places.{between, words_to}
 
-pub usage-form : (form : ℕ) → form < form_count → usage (form_at form) ≡ expected (forms_from form)
-unfolding expected
-usage-form form h = sym (ap expected (form-some form h))
-
-pub usage-other : (form : ℕ) → form_count ≤ form → words_to form_count ≡ expected (forms_from form)
+pub usage-other : words_to form_count ≡ expected none
 unfolding expected words_to between ascii form_at no_form forms
-usage-other form h = sym (ap expected (form-none form h))
+usage-other = refl
 
 -- ---- the words one after another
 

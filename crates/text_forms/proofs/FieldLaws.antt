@@ -2,26 +2,23 @@
 use Prim.Native.Nat.{ℕ, zero, suc, ◌^◌, ◌≤◌, ◌<◌}
 use native.Mathlib.Omega.{arith}
 use mathlib.Core.Path.{◌≡◌, refl, sym, ap, ◌∙◌, subst}
-use mathlib.Core.Bool.{Bool, true, false, ◌&&◌, ◌||◌, and-true, or-false, and_assoc, or_assoc}
-use mathlib.Core.List.{List, [], ◌∷◌, ◌++◌}
+use mathlib.Core.Bool.{Bool, true, false, ◌&&◌, ◌||◌}
+use mathlib.Core.List.{List, [], ◌∷◌}
 use lib.Dec.{T, eqb, leb, eqb→eq, lit≤}
 use lib.ListN.{length, get_or, set, length-set}
 use lib.Seq.{get_or-set_same, get_or-set_other}
 use borrow.Author.Tests.{eq-eqb, eqb-true, eqb-false}
 use Rattle.actions.proofs.Tests.{both, of-yes}
 use Rattle.spec_policy.specs.Bytes.{Bytes, spelt, number, spell, Small}
-use Rattle.spec_policy.specs.Lists.{every}
 use Rattle.spec_policy.specs.Records.{node_at, step_record_at}
 use Rattle.spec_policy.specs.Parts as parts
 use Rattle.spec_policy.proofs.ByteLaws.{number-less, spelt-of-spell}
 use Rattle.spec_policy.proofs.NumberLaws.{number-byte}
 use Rattle.spec_text.specs.Words.{same_bytes}
-use Rattle.spec_text.specs.Forms.{Sort, node, step, size, Fields, fields_in, record_of, Slot, place, bound, Form, bare}
+use Rattle.spec_text.specs.Forms.{Sort, node, step, size, Fields, fields_in, record_of, Slot, place, Form, bare}
 use Rattle.spec_text.specs.Printing.{said, count_in, says}
 use Rattle.spec_text.proofs.WordLaws.{same_refl, same-eq}
 use Rattle.spec_text.proofs.RecordLaws.{record-again}
-use Rattle.text_forms.specs.declared.forms.Form as code
-use Rattle.text_forms.specs.Meant.{slot_of, slots_of}
 use Rattle.text_forms.specs.Whole.{names, named, whole, fit}
 
 -- ---- what the code reads
@@ -42,42 +39,6 @@ first-four step bs (suc zero) h = refl
 first-four step bs (suc (suc zero)) h = refl
 first-four step bs (suc (suc (suc zero))) h = refl
 first-four s bs (suc (suc (suc (suc i)))) h = absurd (omega arith)
-
--- ---- what the slots of a form say together
-
-names-append : (ps qs : List Slot) (i : ℕ) → (names ps i || names qs i) ≡ names (ps ++ qs) i
-unfolding names
-names-append [] qs i = refl
-names-append (p ∷ ps) qs i = or_assoc (eqb (place p) i) (names ps i) (names qs i) ∙ ap (λ (b : Bool). eqb (place p) i || b) (names-append ps qs i)
-
-fit_append : (ps qs : List Slot) (xs : Fields) → (fit ps xs && fit qs xs) ≡ fit (ps ++ qs) xs
-unfolding fit every
-fit_append [] qs xs = refl
-fit_append (p ∷ ps) qs xs = and_assoc (leb (get_or xs (place p) 0) (bound p)) (fit ps xs) (fit qs xs) ∙ ap (λ (b : Bool). leb (get_or xs (place p) 0) (bound p) && b) (fit_append ps qs xs)
-
-pub names-three : (f : code.Form) (i : ℕ) → (names (slot_of f.first) i || (names (slot_of f.second) i || names (slot_of f.third) i)) ≡ names (slots_of f) i
-unfolding slots_of
-names-three f i =
-    let a = slot_of f.first in
-    let b = slot_of f.second in
-    let c = slot_of f.third in
-    ap (λ (x : Bool). names a i || x) (names-append b c i) ∙ names-append a (b ++ c) i
-
-pub fit-three : (f : code.Form) (xs : Fields) → (fit (slot_of f.first) xs && (fit (slot_of f.second) xs && fit (slot_of f.third) xs)) ≡ fit (slots_of f) xs
-unfolding slots_of
-fit-three f xs =
-    let a = slot_of f.first in
-    let b = slot_of f.second in
-    let c = slot_of f.third in
-    ap (λ (x : Bool). fit a xs && x) (fit_append b c xs) ∙ fit_append a (b ++ c) xs
-
-pub fit-one : (p : Slot) (xs : Fields) → leb (get_or xs (place p) 0) (bound p) ≡ fit (p ∷ []) xs
-unfolding fit every
-fit-one p xs = sym (and-true (leb (get_or xs (place p) 0) (bound p)))
-
-pub names-one : (p : Slot) (i : ℕ) → eqb (place p) i ≡ names (p ∷ []) i
-unfolding names
-names-one p i = sym (or-false (eqb (place p) i))
 
 -- ---- the fields that a line says
 

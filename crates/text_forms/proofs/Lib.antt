@@ -1,3 +1,4 @@
 pub mod TableLaws
 pub mod FormLaws
 pub mod FieldLaws
+pub mod SlotLaws

@@ -1,9 +1,9 @@
 // A record's fields, and whether its line says all of them. A record is a slice of its own.
-ghost use Rattle.std.specs.Prelude.{◌≡◌, ◌≤◌, ◌<◌, length, get_or};
-ghost use Rattle.spec_text.specs.Forms.{node, step, size, fields_in};
+ghost use Rattle.std.specs.Prelude.{◌≡◌, ◌≤◌, ◌<◌, [], ◌∷◌, length, get_or};
+ghost use Rattle.spec_text.specs.Forms.{node, step, size, fields_in, place, bound};
 ghost use Rattle.spec_text.specs.Printing.{count_in, says};
 ghost use Rattle.text_forms.specs.Table.{form_count, form_at};
-ghost use Rattle.text_forms.specs.Meant.{sort_of, slot_of, slots_of};
+ghost use Rattle.text_forms.specs.Meant.{sort_of, slot_of, slots_in, slots_of};
 ghost use Rattle.text_forms.specs.Whole.{names, named, whole, fit};
 
 use crate::forms::{Form, Slot, Sort, form_at};
@@ -36,7 +36,7 @@ pub fn field(bytes: &[u8], sort: Sort, place: u8) -> u64
     ensures { result ≡ get_or (fields_in (sort_of sort) bytes.now) place 0 }
 {
     if place < 4 {
-        return byte(bytes, place as usize) as u64;
+        return u64::from(byte(bytes, usize::from(place)));
     }
     match sort {
         Sort::Node => node_rest(bytes, place),
@@ -55,14 +55,42 @@ pub fn counted(bytes: &[u8], sort: Sort) -> u8
     }
 }
 
-fn is_named(slot: Slot, place: u8) -> bool
-    ensures { result ≡ names (slot_of slot) place }
+fn place_of(slot: Slot) -> u8
+    ensures { result ≡ place (slot_of slot) }
 {
     match slot {
-        Slot::Number(i, _) => i == place,
-        Slot::Actions(i) => i == place,
-        Slot::Nothing => false,
+        Slot::Number(i, _) => i,
+        Slot::Actions(i) => i,
     }
+}
+
+fn most_of(slot: Slot) -> u64
+    ensures { result ≡ bound (slot_of slot) }
+{
+    match slot {
+        Slot::Number(_, most) => most,
+        Slot::Actions(_) => u64::MAX,
+    }
+}
+
+fn is_named(slot: Option<Slot>, place: u8) -> bool
+    ensures { result ≡ names (slots_in (slot ∷ [])) place }
+{
+    match slot {
+        Some(slot) => place_of(slot) == place,
+        None => false,
+    }
+}
+
+fn any_named(slots: &[Option<Slot>], place: u8) -> bool
+    ensures { result ≡ names (slots_in slots.now) place }
+{
+    for slot in slots {
+        if is_named(*slot, place) {
+            return true;
+        }
+    }
+    false
 }
 
 // The line names the field, or it is zero.
@@ -70,11 +98,7 @@ fn said(bytes: &[u8], sort: Sort, form: Form, place: u8) -> bool
     requires { length bytes.now ≡ size (sort_of sort) }
     ensures { result ≡ named (slots_of form) (fields_in (sort_of sort) bytes.now) place }
 {
-    let first = form.first;
-    let second = form.second;
-    let third = form.third;
-    (is_named(first, place) | (is_named(second, place) | is_named(third, place)))
-        | (field(bytes, sort, place) == 0)
+    any_named(&form.slots, place) || field(bytes, sort, place) == 0
 }
 
 fn is_whole(bytes: &[u8], sort: Sort, form: Form) -> bool
@@ -93,25 +117,26 @@ fn is_whole(bytes: &[u8], sort: Sort, form: Form) -> bool
     }
 }
 
-fn fits(bytes: &[u8], sort: Sort, slot: Slot) -> bool
+fn fits(bytes: &[u8], sort: Sort, slot: Option<Slot>) -> bool
     requires { length bytes.now ≡ size (sort_of sort) }
-    ensures { result ≡ fit (slot_of slot) (fields_in (sort_of sort) bytes.now) }
+    ensures { result ≡ fit (slots_in (slot ∷ [])) (fields_in (sort_of sort) bytes.now) }
 {
     match slot {
-        Slot::Number(i, most) => field(bytes, sort, i) <= most,
-        Slot::Actions(i) => field(bytes, sort, i) <= u64::MAX,
-        Slot::Nothing => true,
+        Some(slot) => field(bytes, sort, place_of(slot)) <= most_of(slot),
+        None => true,
     }
 }
 
-fn all_fit(bytes: &[u8], sort: Sort, form: Form) -> bool
+fn all_fit(bytes: &[u8], sort: Sort, slots: &[Option<Slot>]) -> bool
     requires { length bytes.now ≡ size (sort_of sort) }
-    ensures { result ≡ fit (slots_of form) (fields_in (sort_of sort) bytes.now) }
+    ensures { result ≡ fit (slots_in slots.now) (fields_in (sort_of sort) bytes.now) }
 {
-    let first = form.first;
-    let second = form.second;
-    let third = form.third;
-    fits(bytes, sort, first) & (fits(bytes, sort, second) & fits(bytes, sort, third))
+    for slot in slots {
+        if !fits(bytes, sort, *slot) {
+            return false;
+        }
+    }
+    true
 }
 
 // The line of the form at a place, which is that of the record's kind, says the whole record.
@@ -120,6 +145,7 @@ pub fn says(bytes: &[u8], sort: Sort, i: usize) -> bool
     ensures { result ≡ says (sort_of sort) (form_at i) bytes.now }
 {
     let form = form_at(i);
-    let room = form.room;
-    is_whole(bytes, sort, form) & all_fit(bytes, sort, form) & (counted(bytes, sort) <= room)
+    is_whole(bytes, sort, form)
+        & all_fit(bytes, sort, &form.slots)
+        & (counted(bytes, sort) <= form.room)
 }

@@ -1,7 +1,7 @@
 // The kinds of lines: one table, by which a line is read, a record is printed, and a line that cannot be read is answered.
-ghost use Rattle.std.specs.Prelude.{◌≡◌, ◌<◌};
-ghost use Rattle.spec_text.specs.Forms.{same_sort, of_kind};
-ghost use Rattle.text_forms.specs.Table.{form_count, forms_from, form_at};
+ghost use Rattle.std.specs.Prelude.{◌≡◌, ◌<◌, IfSome};
+ghost use Rattle.spec_text.specs.Forms.{of_kind};
+ghost use Rattle.text_forms.specs.Table.{form_count, form_found, form_at};
 ghost use Rattle.text_forms.specs.Meant.{sort_of, Means};
 
 use file_records::{
@@ -9,7 +9,7 @@ use file_records::{
     UNSATISFIABLE,
 };
 
-#[derive(Clone, Copy)]
+#[derive(Clone, Copy, PartialEq, Eq)]
 pub enum Sort {
     Node,
     Step,
@@ -20,32 +20,23 @@ pub enum Sort {
 pub enum Slot {
     Number(u8, u64),
     Actions(u8),
-    Nothing,
 }
 
-// How long the longest usage is.
-const WIDTH: usize = 22;
-
-// The usage is what is told of a line that is wrong, with spaces behind it up to the width: its first `length` bytes, of which the first
-// `word` are the line's first word. `room` is the most steps that the record may count.
+// `name` is the line's first word, `usage` what is told of a line that is wrong. `room` is the most steps that the record may count. No line says
+// more than three things.
 #[derive(Clone, Copy)]
 pub struct Form {
-    pub usage: [u8; WIDTH],
-    pub word: usize,
-    pub length: usize,
+    pub name: &'static [u8],
+    pub usage: &'static [u8],
     pub sort: Sort,
     pub kind: u8,
     pub room: u8,
-    pub first: Slot,
-    pub second: Slot,
-    pub third: Slot,
+    pub slots: [Option<Slot>; 3],
 }
 
 const MOST_BYTE: u64 = 255;
 
 const MOST_WORD: u64 = 4294967295;
-
-const NOTHING: Slot = Slot::Nothing;
 
 const REGULATED: Slot = Slot::Actions(5);
 
@@ -72,169 +63,124 @@ pub const NODE_FORMS: usize = 7;
 
 const FORMS: [Form; FORM_COUNT] = [
     Form {
-        usage: *b"leaf {ACTIONS} START  ",
-        word: 4,
-        length: 20,
+        name: b"leaf",
+        usage: b"leaf {ACTIONS} START",
         sort: Sort::Node,
         kind: LEAF,
         room: 255,
-        first: REGULATED,
-        second: START,
-        third: NOTHING,
+        slots: [Some(REGULATED), Some(START), None],
     },
     Form {
-        usage: *b"trivial               ",
-        word: 7,
-        length: 7,
+        name: b"trivial",
+        usage: b"trivial",
         sort: Sort::Node,
         kind: TRIVIAL,
         room: 0,
-        first: NOTHING,
-        second: NOTHING,
-        third: NOTHING,
+        slots: [None, None, None],
     },
     Form {
-        usage: *b"unsatisfiable         ",
-        word: 13,
-        length: 13,
+        name: b"unsatisfiable",
+        usage: b"unsatisfiable",
         sort: Sort::Node,
         kind: UNSATISFIABLE,
         room: 0,
-        first: NOTHING,
-        second: NOTHING,
-        third: NOTHING,
+        slots: [None, None, None],
     },
     Form {
-        usage: *b"and LEFT RIGHT        ",
-        word: 3,
-        length: 14,
+        name: b"and",
+        usage: b"and LEFT RIGHT",
         sort: Sort::Node,
         kind: AND,
         room: 0,
-        first: LEFT,
-        second: RIGHT,
-        third: NOTHING,
+        slots: [Some(LEFT), Some(RIGHT), None],
     },
     Form {
-        usage: *b"seq-and LEFT RIGHT    ",
-        word: 7,
-        length: 18,
+        name: b"seq-and",
+        usage: b"seq-and LEFT RIGHT",
         sort: Sort::Node,
         kind: SEQ_AND,
         room: 0,
-        first: LEFT,
-        second: RIGHT,
-        third: NOTHING,
+        slots: [Some(LEFT), Some(RIGHT), None],
     },
     Form {
-        usage: *b"or LEFT RIGHT         ",
-        word: 2,
-        length: 13,
+        name: b"or",
+        usage: b"or LEFT RIGHT",
         sort: Sort::Node,
         kind: OR,
         room: 0,
-        first: LEFT,
-        second: RIGHT,
-        third: NOTHING,
+        slots: [Some(LEFT), Some(RIGHT), None],
     },
     Form {
-        usage: *b"seq-or LEFT RIGHT     ",
-        word: 6,
-        length: 17,
+        name: b"seq-or",
+        usage: b"seq-or LEFT RIGHT",
         sort: Sort::Node,
         kind: SEQ_OR,
         room: 0,
-        first: LEFT,
-        second: RIGHT,
-        third: NOTHING,
+        slots: [Some(LEFT), Some(RIGHT), None],
     },
     Form {
-        usage: *b"next TAKE DONE        ",
-        word: 4,
-        length: 14,
+        name: b"next",
+        usage: b"next TAKE DONE",
         sort: Sort::Step,
         kind: NEXT,
         room: 0,
-        first: FIRST,
-        second: SECOND,
-        third: NOTHING,
+        slots: [Some(FIRST), Some(SECOND), None],
     },
     Form {
-        usage: *b"ok TO                 ",
-        word: 2,
-        length: 5,
+        name: b"ok",
+        usage: b"ok TO",
         sort: Sort::Step,
         kind: OK,
         room: 0,
-        first: FIRST,
-        second: NOTHING,
-        third: NOTHING,
+        slots: [Some(FIRST), None, None],
     },
     Form {
-        usage: *b"sup TO                ",
-        word: 3,
-        length: 6,
+        name: b"sup",
+        usage: b"sup TO",
         sort: Sort::Step,
         kind: SUP,
         room: 0,
-        first: FIRST,
-        second: NOTHING,
-        third: NOTHING,
+        slots: [Some(FIRST), None, None],
     },
     Form {
-        usage: *b"ins ACTION TO         ",
-        word: 3,
-        length: 13,
+        name: b"ins",
+        usage: b"ins ACTION TO",
         sort: Sort::Step,
         kind: INS,
         room: 0,
-        first: ACTION,
-        second: FIRST,
-        third: NOTHING,
+        slots: [Some(ACTION), Some(FIRST), None],
     },
     Form {
-        usage: *b"acase {ACTIONS} YES NO",
-        word: 5,
-        length: 22,
+        name: b"acase",
+        usage: b"acase {ACTIONS} YES NO",
         sort: Sort::Step,
         kind: ACASE,
         room: 0,
-        first: OPERAND,
-        second: FIRST,
-        third: SECOND,
+        slots: [Some(OPERAND), Some(FIRST), Some(SECOND)],
     },
     Form {
-        usage: *b"spend AMOUNT YES NO   ",
-        word: 5,
-        length: 19,
+        name: b"spend",
+        usage: b"spend AMOUNT YES NO",
         sort: Sort::Step,
         kind: SPEND,
         room: 0,
-        first: AMOUNT,
-        second: FIRST,
-        third: SECOND,
+        slots: [Some(AMOUNT), Some(FIRST), Some(SECOND)],
     },
     Form {
-        usage: *b"end                   ",
-        word: 3,
-        length: 3,
+        name: b"end",
+        usage: b"end",
         sort: Sort::Step,
         kind: END,
         room: 0,
-        first: NOTHING,
-        second: NOTHING,
-        third: NOTHING,
+        slots: [None, None, None],
     },
     Form {
-        usage: *b"halt                  ",
-        word: 4,
-        length: 4,
+        name: b"halt",
+        usage: b"halt",
         sort: Sort::Step,
         kind: HALT,
         room: 0,
-        first: NOTHING,
-        second: NOTHING,
-        third: NOTHING,
+        slots: [None, None, None],
     },
 ];
 
@@ -246,33 +192,16 @@ pub fn form_at(i: usize) -> Form
     FORMS[i]
 }
 
-fn same_sort(a: Sort, b: Sort) -> bool
-    ensures { result ≡ same_sort (sort_of a) (sort_of b) }
+// The form of records of the kind, by its place.
+pub fn form_of(sort: Sort, kind: u8) -> Option<usize>
+    ensures is { of_kind (sort_of sort) kind ≡ form_found result }
+    ensures inside { IfSome result (λ i. i < form_count) }
 {
-    match a {
-        Sort::Node => match b {
-            Sort::Node => true,
-            Sort::Step => false,
-        },
-        Sort::Step => match b {
-            Sort::Node => false,
-            Sort::Step => true,
-        },
-    }
-}
-
-// The form of records of the kind, by its place; past the last if there is none.
-pub fn form_of(sort: Sort, kind: u8) -> usize
-    ensures { of_kind (sort_of sort) kind ≡ forms_from result }
-{
-    let mut i = 0;
-    while i < FORM_COUNT {
+    for i in 0..FORM_COUNT {
         let form = form_at(i);
-        let its = form.sort;
-        if same_sort(its, sort) & (form.kind == kind) {
-            return i;
+        if form.sort == sort && form.kind == kind {
+            return Some(i);
         }
-        i += 1;
     }
-    i
+    None
 }

@@ -1,10 +1,13 @@
 -- What a line says: its arguments, a record's bytes, and which of the two a record is shown by.
 use Prim.Native.Nat.{ℕ, ◌+◌, ◌≤◌, ◌<◌}
 use native.Mathlib.Numerals.{add-one}
-use mathlib.Core.Path.{◌≡◌, refl, sym, ap, ◌∙◌}
+use mathlib.Core.Path.{◌≡◌, sym, ap}
 use mathlib.Core.Bool.{true, false}
-use mathlib.Core.List.{List, [], ◌∷◌, ◌++◌, append_assoc, append-nil}
+use mathlib.Core.List.{List, [], ◌∷◌, ◌++◌}
 use mathlib.Core.Option.{none, some}
+use Rattle.std.specs.Prelude.{Option}
+use Rattle.text_forms.specs.declared.forms.Slot as code
+use Rattle.text_forms.specs.Meant.{slots_in}
 use lib.ListN.{length, get_or, drop, drop_of_length-le}
 use lib.Seq.{drop-cons}
 use Rattle.spec_policy.specs.Bytes.{Bytes}
@@ -12,30 +15,16 @@ use Rattle.spec_text.specs.Words.{newline, space}
 use Rattle.spec_text.specs.Numerals.{decimal}
 use Rattle.spec_text.specs.Forms.{Sort, Fields, fields_in, Slot, place, Form, of_kind}
 use Rattle.spec_text.specs.Printing.{arguments, argument, line_text, says, printed_if, record_text, parted, bytes_text, shown_record}
-use Rattle.text_forms.specs.declared.forms.Form as code
-use Rattle.text_forms.specs.Meant.{slot_of, slots_of}
 
 -- ---- arguments
 
-arguments-append : (ps qs : List Slot) (xs : Fields) → arguments ps xs ++ arguments qs xs ≡ arguments (ps ++ qs) xs
+pub arguments_more : (ps qs : List Slot) (p : Slot) (xs : Fields) → ps ≡ p ∷ qs → argument p (get_or xs (place p) 0) ++ arguments qs xs ≡ arguments ps xs
 unfolding arguments
-arguments-append [] qs xs = refl
-arguments-append (p ∷ ps) qs xs =
-    let a = argument p (get_or xs (place p) 0) in
-    append_assoc a (arguments ps xs) (arguments qs xs) ∙ ap (λ (l : Bytes). a ++ l) (arguments-append ps qs xs)
+arguments_more ps qs p xs e = sym (ap (λ (l : List Slot). arguments l xs) e)
 
-pub argument-one : (p : Slot) (xs : Fields) → argument p (get_or xs (place p) 0) ≡ arguments (p ∷ []) xs
-unfolding arguments
-argument-one p xs = sym (append-nil (argument p (get_or xs (place p) 0)))
-
-pub arguments-three : (f : code.Form) (xs : Fields)
-    → arguments (slot_of f.first) xs ++ (arguments (slot_of f.second) xs ++ arguments (slot_of f.third) xs) ≡ arguments (slots_of f) xs
-unfolding slots_of
-arguments-three f xs =
-    let a = slot_of f.first in
-    let b = slot_of f.second in
-    let c = slot_of f.third in
-    ap (λ (l : Bytes). arguments a xs ++ l) (arguments-append b c xs) ∙ arguments-append a (b ++ c) xs
+pub arguments-over : (os : List (Option code.Slot)) (k : ℕ) (xs : Fields) → length os ≤ k → [] ≡ arguments (slots_in (drop k os)) xs
+unfolding arguments slots_in
+arguments-over os k xs h = ap (λ (l : List (Option code.Slot)). arguments (slots_in l) xs) (sym (drop_of_length-le os {i = k} h))
 
 -- ---- bytes, the i-th and those after it
 

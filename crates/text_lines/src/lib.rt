@@ -1,23 +1,24 @@
 // A record printed as a line: its own, or its bytes in a remark where it has none.
 #![tactic(auto)]
 
-ghost use Rattle.std.specs.Prelude.{◌≡◌, [], ◌∷◌, ◌++◌, ◌<◌, length};
+ghost use Rattle.std.specs.Prelude.{◌≡◌, [], ◌∷◌, ◌++◌, ◌<◌, length, get_or};
 ghost use Rattle.spec_text.specs.Words.{newline};
-ghost use Rattle.spec_text.specs.Forms.{size, fields_in};
-ghost use Rattle.spec_text.specs.Printing.{arguments, indent, title, line_text, parted, bytes_text, shown_record};
+ghost use Rattle.spec_text.specs.Forms.{size, place, fields_in};
+ghost use Rattle.spec_text.specs.Printing.{argument, arguments, indent, title, line_text, parted, bytes_text, shown_record};
 ghost use Rattle.text_append.specs.Added.{Added};
 ghost use Rattle.text_forms.specs.Table.{form_count, form_at};
-ghost use Rattle.text_forms.specs.Meant.{sort_of, slot_of, slots_of};
+ghost use Rattle.text_forms.specs.Meant.{sort_of, slot_of, slots_in};
 
 use actions::ActionSet;
 use file_records::byte;
 use text_append::{append, append_number, append_set};
 use text_forms::fields::{field, says};
-use text_forms::forms::{FORM_COUNT, Form, Slot, Sort, form_at, form_of};
+use text_forms::forms::{Slot, Sort, form_at, form_of};
 
 fn argument(out: &mut [u8], at: usize, bytes: &[u8], sort: Sort, slot: Slot) -> usize
     requires { length bytes.now ≡ size (sort_of sort) }
-    ensures { Added out.old at (arguments (slot_of slot) (fields_in (sort_of sort) bytes.now)) out.new result }
+    ensures { Added out.old at
+        (argument (slot_of slot) (get_or (fields_in (sort_of sort) bytes.now) (place (slot_of slot)) 0)) out.new result }
 {
     match slot {
         Slot::Number(i, _) => {
@@ -25,25 +26,23 @@ fn argument(out: &mut [u8], at: usize, bytes: &[u8], sort: Sort, slot: Slot) -> 
             append_number(out, start, field(bytes, sort, i))
         }
         Slot::Actions(i) => {
-            let set = ActionSet {
-                bits: field(bytes, sort, i),
-            };
-            append_set(out, at, set)
+            let bits = field(bytes, sort, i);
+            append_set(out, at, ActionSet { bits })
         }
-        Slot::Nothing => at,
     }
 }
 
-fn all_arguments(out: &mut [u8], at: usize, bytes: &[u8], sort: Sort, form: Form) -> usize
+fn arguments(out: &mut [u8], at: usize, bytes: &[u8], sort: Sort, slots: &[Option<Slot>]) -> usize
     requires { length bytes.now ≡ size (sort_of sort) }
-    ensures { Added out.old at (arguments (slots_of form) (fields_in (sort_of sort) bytes.now)) out.new result }
+    ensures { Added out.old at (arguments (slots_in slots.now) (fields_in (sort_of sort) bytes.now)) out.new result }
 {
-    let first = form.first;
-    let second = form.second;
-    let third = form.third;
-    let one = argument(out, at, bytes, sort, first);
-    let two = argument(out, one, bytes, sort, second);
-    argument(out, two, bytes, sort, third)
+    let mut end = at;
+    for slot in slots {
+        if let Some(slot) = slot {
+            end = argument(out, end, bytes, sort, *slot);
+        }
+    }
+    end
 }
 
 fn begin(out: &mut [u8], at: usize, sort: Sort) -> usize
@@ -71,11 +70,9 @@ fn line(out: &mut [u8], at: usize, bytes: &[u8], sort: Sort, form: usize, i: usi
         (line_text (sort_of sort) (form_at form) (fields_in (sort_of sort) bytes.now) i ++ (newline ∷ [])) out.new result }
 {
     let row = form_at(form);
-    let usage = row.usage;
-    let length = row.word;
     let begun = begin(out, at, sort);
-    let named = append(out, begun, &usage[..length]);
-    let said = all_arguments(out, named, bytes, sort, row);
+    let named = append(out, begun, row.name);
+    let said = arguments(out, named, bytes, sort, &row.slots);
     let parted = append(out, said, b"  ");
     let marked = mark(out, parted, sort);
     let end = append_number(out, marked, i as u64);
@@ -87,11 +84,9 @@ fn append_bytes(out: &mut [u8], at: usize, bytes: &[u8]) -> usize
     ensures { Added out.old at (parted bytes.now) out.new result }
 {
     let mut end = at;
-    let mut i = 0;
-    while i < bytes.len() {
+    for byte in bytes {
         let spaced = append(out, end, b" ");
-        end = append_number(out, spaced, bytes[i] as u64);
-        i += 1;
+        end = append_number(out, spaced, u64::from(*byte));
     }
     end
 }
@@ -113,12 +108,8 @@ pub fn record_line(out: &mut [u8], at: usize, bytes: &[u8], sort: Sort, i: usize
     requires { length bytes.now ≡ size (sort_of sort) }
     ensures { Added out.old at (shown_record (sort_of sort) i bytes.now) out.new result }
 {
-    let form = form_of(sort, byte(bytes, 0));
-    if form >= FORM_COUNT {
-        return bytes_line(out, at, bytes, sort, i);
+    match form_of(sort, byte(bytes, 0)) {
+        Some(form) if says(bytes, sort, form) => line(out, at, bytes, sort, form, i),
+        _ => bytes_line(out, at, bytes, sort, i),
     }
-    if says(bytes, sort, form) {
-        return line(out, at, bytes, sort, form, i);
-    }
-    bytes_line(out, at, bytes, sort, i)
 }

@@ -2,12 +2,14 @@
 #![tactic(auto)]
 
 ghost use Rattle.std.specs.Prelude.{◌≡◌, ℕ, ◌≤◌, ◌<◌, length};
-ghost use Rattle.spec_text.specs.Reading.{read_text};
+ghost use Rattle.spec_text.specs.Forms.{Fields};
+ghost use Rattle.spec_text.specs.Reading.{entry, read_text};
 ghost use Rattle.text_forms.specs.Table.{form_count, node_forms, form_at};
+ghost use Rattle.text_line.specs.Lines.{line_meant, InTable};
 ghost use Rattle.text_measure.specs.Measures.{LineEnds, ReadsOn, Counted, sizes_read, measured};
 
-use text_forms::forms::{FORM_COUNT, NODE_FORMS, form_at};
-use text_line::{Line, NOTHING, read_line};
+use text_forms::forms::{NODE_FORMS, form_at};
+use text_line::{Line, read_line};
 
 pub const NEWLINE: u8 = b'\n';
 
@@ -16,14 +18,12 @@ pub fn line_end(text: &[u8], at: usize) -> usize
     requires { at ≤ length text.now }
     ensures { LineEnds text.now at result }
 {
-    let mut i = at;
-    while i < text.len() {
+    for i in at..text.len() {
         if text[i] == NEWLINE {
             return i;
         }
-        i += 1;
     }
-    i
+    text.len()
 }
 
 // The line at a place, and where the next one begins.
@@ -35,17 +35,13 @@ pub struct At {
 
 pub fn line_at(text: &[u8], at: usize) -> At
     requires { at < length text.now }
-    ensures { ReadsOn text.now at result.line.form result.line.fields result.next }
+    ensures { ReadsOn text.now at result.line result.next }
 {
     let end = line_end(text, at);
-    let line = read_line(&text[at..end]);
-    if end < text.len() {
-        return At {
-            line,
-            next: end + 1,
-        };
+    At {
+        line: read_line(&text[at..end]),
+        next: (end + 1).min(text.len()),
     }
-    At { line, next: end }
 }
 
 // ---- how many records there are
@@ -55,91 +51,83 @@ pub fn room_after(form: usize) -> usize
     requires { form < form_count }
     ensures { result ≡ (form_at form).room }
 {
-    let row = form_at(form);
-    row.room as usize
+    usize::from(form_at(form).room)
 }
 
-// How many records were read, how many more steps may follow, and whether the last line may stand where it does.
+// How many records were read, and how many more steps may follow.
 #[derive(Clone, Copy)]
-pub struct Tally {
-    pub nodes: usize,
-    pub steps: usize,
-    pub room: usize,
-    pub good: bool,
+struct Tally {
+    nodes: usize,
+    steps: usize,
+    room: usize,
 }
 
-// The tally after a step: where none may follow, it cannot stand.
-fn stepped(t: Tally) -> Tally
+// The tally after a step, which cannot stand where none may follow.
+fn stepped(t: Tally) -> Option<Tally>
     requires { t.steps < 18446744073709551615 }
-    ensures { (form : ℕ) → node_forms ≤ form → form < form_count → Counted form t result }
+    ensures { (form : ℕ) (fields : Fields) → node_forms ≤ form → form < form_count → Counted (entry (form_at form) fields) t result }
 {
     if t.room == 0 {
-        return Tally {
-            nodes: t.nodes,
-            steps: t.steps,
-            room: t.room,
-            good: false,
-        };
+        return None;
     }
-    Tally {
+    Some(Tally {
         nodes: t.nodes,
         steps: t.steps + 1,
         room: t.room - 1,
-        good: true,
-    }
+    })
 }
 
-// The tally after a line of this form.
-fn counted(form: usize, t: Tally) -> Tally
-    requires { (t.nodes < 18446744073709551615) × (t.steps < 18446744073709551615) }
-    ensures { Counted form t result }
+// The tally after a line, if it may stand where it does.
+fn counted(line: Line, t: Tally) -> Option<Tally>
+    requires { InTable line × (t.nodes < 18446744073709551615) × (t.steps < 18446744073709551615) }
+    ensures { Counted (line_meant line) t result }
 {
-    if form < NODE_FORMS {
-        return Tally {
-            nodes: t.nodes + 1,
-            steps: t.steps,
-            room: room_after(form),
-            good: true,
-        };
-    }
-    if form < FORM_COUNT {
-        return stepped(t);
-    }
-    Tally {
-        nodes: t.nodes,
-        steps: t.steps,
-        room: t.room,
-        good: form == NOTHING,
+    match line {
+        Line::Nothing => Some(t),
+        Line::Unreadable => None,
+        Line::Record { form, .. } => {
+            if form < NODE_FORMS {
+                Some(Tally {
+                    nodes: t.nodes + 1,
+                    steps: t.steps,
+                    room: room_after(form),
+                })
+            } else {
+                stepped(t)
+            }
+        }
     }
 }
 
 #[derive(Clone, Copy)]
-pub enum Outcome {
-    Records(usize, usize),
-    BadLine(usize),
+pub struct Records {
+    pub nodes: usize,
+    pub steps: usize,
 }
 
-// How many node and step records the text is read as, or the first line that cannot be read.
-pub fn measure(text: &[u8]) -> Outcome
+// The first line that cannot be read, counted from 1.
+#[derive(Clone, Copy, PartialEq, Eq)]
+pub struct BadLine(pub usize);
+
+// How many records the text is read as.
+pub fn measure(text: &[u8]) -> Result<Records, BadLine>
     ensures { measured result ≡ sizes_read (read_text text.now) }
 {
     let mut tally = Tally {
         nodes: 0,
         steps: 0,
         room: 0,
-        good: true,
     };
     let mut at = 0;
-    let mut line = 0;
+    let mut line = 1;
     while at < text.len() {
         let read = line_at(text, at);
-        let found = read.line;
-        tally = counted(found.form, tally);
-        if !tally.good {
-            return Outcome::BadLine(line + 1);
-        }
+        tally = counted(read.line, tally).ok_or(BadLine(line))?;
         at = read.next;
         line += 1;
     }
-    Outcome::Records(tally.nodes, tally.steps)
+    Ok(Records {
+        nodes: tally.nodes,
+        steps: tally.steps,
+    })
 }

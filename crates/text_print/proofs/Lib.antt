@@ -1,3 +1,3 @@
-mod PrintLaws
+pub mod PrintLaws
 pub mod Lengths
 pub mod FileLaws

@@ -1,89 +1,109 @@
--- Lines one after another: of steps, and of nodes with their steps.
-use Prim.Native.Nat.{ℕ, zero, suc, ◌+◌, ◌-◌, ◌*◌, ◌/◌, ◌≤◌, ◌<◌, min}
-use native.Mathlib.Omega.{arith}
-use mathlib.Core.Path.{◌≡◌, sym, ap, ap₂, ◌∙◌}
-use mathlib.Core.List.{[], ◌++◌}
-use lib.ListN.{length, take, drop, length-drop}
-use lib.Seq.{drop-drop}
+-- Lines one after another: of steps, of nodes with their steps, and of the steps that no node has.
+use Rattle.std.proofs.Common.{ℕ, zero, suc, ◌+◌, ◌*◌, ◌/◌, ◌≤◌, ◌<◌, min, ◌≡◌, refl, ap, ◌∙◌, arith, [], ◌++◌, length, take, drop, append_assoc, length-append, length-take}
+use Rattle.std.proofs.lemmas.List.{take_at, drop_at, take-take, drop-take, drop-drop}
 use Rattle.spec_policy.specs.Bytes.{Bytes}
 use Rattle.spec_text.specs.Words.{ascii}
 use Rattle.spec_text.specs.Forms.{node, step, size}
-use Rattle.spec_text.specs.Printing.{count_in, shown_record, shown_steps, steps_had, shown_left, shown_nodes}
+use Rattle.spec_text.specs.Printing.{count_in, shown_record, shown_steps, steps_had, shown_left, shown_nodes, shown_records}
+use Rattle.text_print.specs.Led.{led_steps, led_nodes, led_records, steps_owned}
 
--- the steps from the j-th on, as the code counts them
-abbrev pub steps_from : ℕ → Bytes → Bytes
-steps_from j ss = drop (12 * j) ss
+module _ (lead : ℕ → Bytes) where
+  -- ---- a step, and those after it
 
-further : (j k : ℕ) (ss : Bytes) → steps_from (j + k) ss ≡ drop (12 * k) (steps_from j ss)
-further j k ss = let e : 12 * (j + k) ≡ 12 * j + 12 * k = omega arith in ap (λ (n : ℕ). drop n ss) e ∙ sym (drop-drop (12 * k) (12 * j) ss)
+  -- the k-th of them; `whole` is what is left at it, `rest` what is left after it
+  pub steps-more : (x rest whole : Bytes) (offset first k now next : ℕ) → length x ≡ 12 → whole ≡ x ++ rest → k ≡ now → next ≡ now + 1
+      → lead (first + k) ++ (shown_record step (offset + k) x ++ led_steps lead (length rest / 12) (offset + next) (first + next) rest)
+      ≡ led_steps lead (length whole / 12) (offset + now) (first + now) whole
+  unfolding led_steps size
+  steps-more x rest whole offset first k now next h w e f =
+      let n : length whole / 12 ≡ suc (length rest / 12) = omega (arith, ap length w, length-append x rest) in
+      let a : offset + next ≡ suc (offset + now) = omega arith in
+      let b : first + next ≡ suc (first + now) = omega arith in
+      rw (n, w, e, a, b, led_steps, take_at x rest 12 h, drop_at x rest 12 h)
 
--- ---- the j-th step, and those after it
+  pub steps-over : (rest : Bytes) (j i : ℕ) → length rest < 12 → [] ≡ led_steps lead (length rest / 12) j i rest
+  unfolding led_steps
+  steps-over rest j i h = let n : length rest / 12 ≡ 0 = omega arith in rw (n, led_steps)
 
-module _ (next j base : ℕ) (ss : Bytes) where
-  pub steps_next : base ≤ j → j < next
-      → shown_record step (j - base) (take (12 * j + 12 - 12 * j) (steps_from j ss)) ++ shown_steps (next - (j + 1)) (j + 1 - base) (steps_from (j + 1) ss)
-      ≡ shown_steps (next - j) (j - base) (steps_from j ss)
-  unfolding shown_steps size
-  steps_next b h =
-      let e : 12 * j + 12 - 12 * j ≡ 12 = omega arith in
-      let a : suc (next - (j + 1)) ≡ next - j = omega arith in
-      let d : j + 1 - base ≡ suc (j - base) = omega arith in
-      ap₂ (λ (k : ℕ) (x : Bytes). shown_record step (j - base) (take k (steps_from j ss)) ++ x) e (ap₂ (shown_steps (next - (j + 1))) d (further j 1 ss))
-      ∙ ap (λ (k : ℕ). shown_steps k (j - base) (steps_from j ss)) a
+  -- only so many steps are read
+  pub steps-read : (n j i : ℕ) (ss : Bytes) → led_steps lead n j i (take (12 * n) ss) ≡ led_steps lead n j i ss
+  unfolding led_steps size
+  steps-read zero j i ss = refl
+  steps-read (suc n) j i ss =
+      let e : 12 * suc n ≡ 12 + 12 * n = omega arith in
+      let h : 12 ≤ 12 + 12 * n = omega arith in
+      rw (e, take-take 12 (12 + 12 * n) ss h, drop-take 12 (12 * n) ss, steps-read n (suc j) (suc i) (drop 12 ss))
 
-  pub steps-over : next ≤ j → [] ≡ shown_steps (next - j) (j - base) (steps_from j ss)
-  unfolding shown_steps
-  steps-over h = let a : 0 ≡ next - j = omega arith in ap (λ (k : ℕ). shown_steps k (j - base) (steps_from j ss)) a
+  -- ---- a node with its steps, and what follows
 
--- ---- the steps that are left
+  -- the i-th of them; `whole` is what is left of the nodes at it, `rest` what is left after it
+  module _ (x rest whole ss : Bytes) (c k : ℕ) (h : length x ≡ 16) (w : whole ≡ x ++ rest) (e : c ≡ count_in node x) (m : k ≡ min c (length ss / 12)) where
+    had : steps_had x ss ≡ k
+    unfolding steps_had size
+    had = rw (← e, ← m)
 
-module _ (first : ℕ) (ss : Bytes) where
-  pub left-none : first ≡ length ss / 12 → [] ≡ shown_left (length ss / 12 - first) first (steps_from first ss)
-  unfolding shown_left
-  left-none h = let a : 0 ≡ length ss / 12 - first = omega arith in ap (λ (k : ℕ). shown_left k first (steps_from first ss)) a
+    more : length whole / 16 ≡ suc (length rest / 16)
+    more = omega (arith, ap length w, length-append x rest)
 
-  pub left-some : first < length ss / 12
-      → ascii "# steps of no leaf\n" ++ shown_steps (length ss / 12 - first) (first - 0) (steps_from first ss) ≡ shown_left (length ss / 12 - first) first (steps_from first ss)
-  unfolding shown_left
-  left-some h = go (length ss / 12 - first) (omega arith)
-    where
-      go : (k : ℕ) → 0 < k → ascii "# steps of no leaf\n" ++ shown_steps k (first - 0) (steps_from first ss) ≡ shown_left k first (steps_from first ss)
-      go zero l = absurd (omega arith)
-      go (suc k) l = let z : first - 0 ≡ first = omega arith in ap (λ (j : ℕ). ascii "# steps of no leaf\n" ++ shown_steps (suc k) j (steps_from first ss)) z
+    pub nodes-more : (i now next first : ℕ) → i ≡ now → next ≡ now + 1 → shown_record node i x
+        ++ (led_steps lead (length (take (12 * k) ss) / 12) 0 first (take (12 * k) ss) ++ led_nodes lead (length rest / 16) next (first + k) rest (drop (12 * k) ss))
+        ≡ led_nodes lead (length whole / 16) now first whole ss
+    unfolding led_nodes size
+    nodes-more i now next first a b =
+        let f : next ≡ suc now = omega arith in
+        let n : length (take (12 * k) ss) / 12 ≡ k = simp length-take (omega arith) in
+        rw (more, w, a, f, n, steps-read k 0 first ss, led_nodes, take_at x rest 16 h, drop_at x rest 16 h, had)
 
--- ---- the i-th node with its steps, and what follows
+    pub owned-more : k + steps_owned (length rest / 16) rest (drop (12 * k) ss) ≡ steps_owned (length whole / 16) whole ss
+    unfolding steps_owned size
+    owned-more = rw (more, w, steps_owned, take_at x rest 16 h, drop_at x rest 16 h, had)
 
--- its record, as the code lends it
-abbrev pub node_in : ℕ → Bytes → Bytes
-node_in i ns = take (16 * i + 16 - 16 * i) (drop (16 * i) ns)
+  pub nodes-over : (rest ss : Bytes) (i first : ℕ) → length rest < 16 → [] ≡ led_nodes lead (length rest / 16) i first rest ss
+  unfolding led_nodes
+  nodes-over rest ss i first h = let n : length rest / 16 ≡ 0 = omega arith in rw (n, led_nodes)
 
-module _ (n i first c k : ℕ) (ns ss : Bytes) (h : i < n) (e : c ≡ count_in node (node_in i ns)) (m : k ≡ min c (length ss / 12 - first)) where
-  had : steps_had (node_in i ns) (steps_from first ss) ≡ k
-  unfolding steps_had size
-  had = omega (arith, length-drop (12 * first) ss)
+pub owned-over : (rest ss : Bytes) → length rest < 16 → 0 ≡ steps_owned (length rest / 16) rest ss
+unfolding steps_owned
+owned-over rest ss h = let n : length rest / 16 ≡ 0 = omega arith in rw (n, steps_owned)
 
-  pub nodes-next : shown_record node i (node_in i ns)
-      ++ (shown_steps (first + k - first) (first - first) (steps_from first ss) ++ shown_nodes (n - (i + 1)) (i + 1) (first + k) (drop (16 * (i + 1)) ns) (steps_from (first + k) ss))
-      ≡ shown_nodes (n - i) i first (drop (16 * i) ns) (steps_from first ss)
-  unfolding shown_nodes size
-  nodes-next =
-      let a : suc (n - (i + 1)) ≡ n - i = omega arith in
-      let b : i + 1 ≡ suc i = omega arith in
-      let d : 16 * (i + 1) ≡ 16 * i + 16 = omega arith in
-      let f : 16 * i + 16 - 16 * i ≡ 16 = omega arith in
-      let z : first - first ≡ 0 = omega arith in
-      let g : first + k - first ≡ k = omega arith in
-      let q = ap (λ (l : ℕ). drop l ns) d ∙ sym (drop-drop 16 (16 * i) ns) in
-      ap₂ (λ (p j : ℕ). shown_record node i (node_in i ns) ++ (shown_steps p j (steps_from first ss) ++ shown_nodes (n - (i + 1)) (i + 1) (first + k) (drop (16 * (i + 1)) ns) (steps_from (first + k) ss))) g z
-      ∙ ap₂ (λ (p : ℕ) (x : Bytes). shown_record node i (node_in i ns) ++ (shown_steps k 0 (steps_from first ss) ++ shown_nodes (n - (i + 1)) p (first + k) x (steps_from (first + k) ss))) b q
-      ∙ ap (λ (x : Bytes). shown_record node i (node_in i ns) ++ (shown_steps k 0 (steps_from first ss) ++ shown_nodes (n - (i + 1)) (suc i) (first + k) (drop 16 (drop (16 * i) ns)) x)) (further first k ss)
-      ∙ ap (λ (p : ℕ). shown_record node i (node_in i ns) ++ (shown_steps p 0 (steps_from first ss) ++ shown_nodes (n - (i + 1)) (suc i) (first + p) (drop 16 (drop (16 * i) ns)) (drop (12 * p) (steps_from first ss)))) (sym had)
-      ∙ ap (λ (p : ℕ). let x = take p (drop (16 * i) ns) in shown_record node i x ++ (shown_steps (steps_had x (steps_from first ss)) 0 (steps_from first ss) ++ shown_nodes (n - (i + 1)) (suc i) (first + steps_had x (steps_from first ss)) (drop 16 (drop (16 * i) ns)) (drop (12 * steps_had x (steps_from first ss)) (steps_from first ss)))) f
-      ∙ ap (λ (p : ℕ). shown_nodes p i first (drop (16 * i) ns) (steps_from first ss)) a
+-- ---- no lead
 
-pub nodes-over : (n i first : ℕ) (ns ss : Bytes) → n ≤ i → shown_left (length ss / 12 - first) first (steps_from first ss) ≡ shown_nodes (n - i) i first (drop (16 * i) ns) (steps_from first ss)
-unfolding shown_nodes size
-nodes-over n i first ns ss h =
-    let a : 0 ≡ n - i = omega arith in
-    let b : length ss / 12 - first ≡ length (steps_from first ss) / 12 = omega (arith, length-drop (12 * first) ss) in
-    ap (λ (k : ℕ). shown_left k first (steps_from first ss)) b ∙ ap (λ (k : ℕ). shown_nodes k i first (drop (16 * i) ns) (steps_from first ss)) a
+pub steps-unled : (n j i : ℕ) (ss : Bytes) → led_steps (λ _. []) n j i ss ≡ shown_steps n j ss
+unfolding led_steps shown_steps
+steps-unled zero j i ss = refl
+steps-unled (suc n) j i ss = ap (λ (x : Bytes). shown_record step j (take (size step) ss) ++ x) (steps-unled n (suc j) (suc i) (drop (size step) ss))
+
+-- all lines are those of the nodes, and those of the steps that are left
+pub nodes-unled : (n i j : ℕ) (ns ss : Bytes)
+    → let k = steps_owned n ns ss in
+    led_nodes (λ _. []) n i j ns ss ++ shown_left (length (drop (12 * k) ss) / 12) (j + k) (drop (12 * k) ss) ≡ shown_nodes n i j ns ss
+unfolding steps_owned led_nodes shown_nodes size
+nodes-unled zero i j ns ss = let z : j + 0 ≡ j = omega arith in ap (λ (k : ℕ). shown_left (length ss / 12) k ss) z
+nodes-unled (suc n) i j ns ss =
+    let x = take 16 ns in
+    let k = steps_had x ss in
+    let o = steps_owned n (drop 16 ns) (drop (12 * k) ss) in
+    let a : 12 * (k + o) ≡ 12 * k + 12 * o = omega arith in
+    let b : j + (k + o) ≡ (j + k) + o = omega arith in
+    rw (a, b, ← drop-drop (12 * o) (12 * k) ss, append_assoc (shown_record node i x), append_assoc (led_steps (λ _. []) k 0 j ss), nodes-unled n (suc i) (j + k) (drop 16 ns) (drop (12 * k) ss), steps-unled k 0 j ss)
+
+pub records-unled : (ns ss : Bytes)
+    → let k = steps_owned (length ns / 16) ns ss in
+    led_records (λ _. []) ns ss ++ shown_left (length (drop (12 * k) ss) / 12) k (drop (12 * k) ss) ≡ shown_records ns ss
+unfolding led_records shown_records size
+records-unled ns ss =
+    let k = steps_owned (length ns / 16) ns ss in
+    let z : k ≡ 0 + k = omega arith in
+    ap (λ (j : ℕ). led_records (λ _. []) ns ss ++ shown_left (length (drop (12 * k) ss) / 12) j (drop (12 * k) ss)) z ∙ nodes-unled (length ns / 16) 0 0 ns ss
+
+pub left-none : (ss : Bytes) (j : ℕ) → length ss < 12 → [] ≡ shown_left (length ss / 12) j ss
+unfolding shown_left
+left-none ss j h = let n : length ss / 12 ≡ 0 = omega arith in rw (n, shown_left)
+
+pub left-some : (ss : Bytes) (j : ℕ) → 12 ≤ length ss → ascii "# steps of no leaf\n" ++ led_steps (λ _. []) (length ss / 12) j j ss ≡ shown_left (length ss / 12) j ss
+unfolding shown_left
+left-some ss j h = go (length ss / 12) (omega arith)
+  where
+    go : (n : ℕ) → 0 < n → ascii "# steps of no leaf\n" ++ led_steps (λ _. []) n j j ss ≡ shown_left n j ss
+    go zero l = absurd (omega arith)
+    go (suc n) l = ap (λ (x : Bytes). ascii "# steps of no leaf\n" ++ x) (steps-unled (suc n) j j ss)

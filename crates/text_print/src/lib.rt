@@ -2,76 +2,109 @@
 // so on no room it is measured.
 #![tactic(auto)]
 
-ghost use Rattle.std.specs.Prelude.{◌-◌, ◌*◌, ◌/◌, ◌≤◌, length, drop};
-ghost use Rattle.spec_policy.specs.Records.{step_size};
-ghost use Rattle.spec_text.specs.Printing.{shown_steps, shown_left, shown_records};
+ghost use Rattle.std.specs.Prelude.{ℕ, ◌≡◌, [], ◌+◌, ◌*◌, ◌/◌, ◌^◌, ◌<◌, ◌≤◌, length, drop};
+ghost use Rattle.spec_policy.specs.Bytes.{Bytes};
+ghost use Rattle.spec_policy.specs.Records.{node_size, step_size};
+ghost use Rattle.spec_text.specs.Printing.{shown_left, shown_records};
 ghost use Rattle.text_append.specs.Added.{Added};
+ghost use Rattle.text_print.specs.Led.{led_steps, led_records, steps_owned};
 
 use file_records::{NODE_SIZE, STEP_SIZE};
-use text_append::{append, least};
+use text_append::append;
 use text_forms::fields::counted;
 use text_forms::forms::Sort;
 use text_lines::record_line;
 
-// The lines of steps, from the one at `first` up to `next`. They are numbered from the one at `base` on.
-fn step_lines(
+// What leads a step's line, by the step's number over the whole file.
+pub trait Lead {
+    ghost words: { Self → ℕ → Bytes };
+
+    fn append_lead(&self, out: &mut [u8], at: usize, step: usize) -> usize
+        ensures { Added out.old at (words self.now step) out.new result };
+}
+
+// Nothing: the lines are the policy's text.
+#[derive(Clone, Copy)]
+struct Bare;
+
+impl Lead for Bare {
+    ghost words = { λ _ _. [] };
+
+    fn append_lead(&self, _out: &mut [u8], at: usize, _step: usize) -> usize {
+        at
+    }
+}
+
+// The lines of these steps. The first is number `first` over the whole file, and number `offset` in its leaf.
+fn step_lines<L: Lead>(
     out: &mut [u8],
     at: usize,
     steps: &[u8],
+    lead: &L,
+    offset: usize,
     first: usize,
-    next: usize,
-    base: usize,
 ) -> usize
-    requires { (base ≤ first) × (first ≤ next) × (step_size * next ≤ length steps.now) }
-    ensures { Added out.old at (shown_steps (next - first) (first - base) (drop (step_size * first) steps.now)) out.new result }
+    requires { (offset + length steps.now < 2 ^ 64) × (first + length steps.now < 2 ^ 64) }
+    ensures { Added out.old at (led_steps (L.words lead.now) (length steps.now / step_size) offset first steps.now) out.new result }
 {
     let mut end = at;
-    let mut j = first;
-    while j < next {
-        let from = STEP_SIZE * j;
-        end = record_line(
-            out,
-            end,
-            &steps[from..from + STEP_SIZE],
-            Sort::Step,
-            j - base,
-        );
-        j += 1;
+    for (i, step) in steps.chunks_exact(STEP_SIZE).enumerate() {
+        let led = lead.append_lead(out, end, first + i);
+        end = record_line(out, led, step, Sort::Step, offset + i);
     }
     end
 }
 
-// The lines of the steps that no node has, from the one at `first` on.
-fn left_lines(out: &mut [u8], at: usize, steps: &[u8], first: usize) -> usize
-    requires { step_size * first ≤ length steps.now }
-    ensures { Added out.old at
-        (shown_left (length steps.now / step_size - first) first (drop (step_size * first) steps.now)) out.new result }
+// Where the lines end, and how many steps they tell.
+#[derive(Clone, Copy)]
+pub struct Told {
+    pub end: usize,
+    pub steps: usize,
+}
+
+// Every node's line, and those of its steps: the next ones that no node before it has.
+pub fn record_lines<L: Lead>(
+    out: &mut [u8],
+    at: usize,
+    nodes: &[u8],
+    steps: &[u8],
+    lead: &L,
+) -> Told
+    ensures told { Added out.old at (led_records (L.words lead.now) nodes.now steps.now) out.new result.end }
+    ensures steps { result.steps ≡ steps_owned (length nodes.now / node_size) nodes.now steps.now }
+    ensures there { step_size * result.steps ≤ length steps.now }
 {
-    let all = steps.len() / STEP_SIZE;
-    if first == all {
+    let mut end = at;
+    let mut first = 0;
+    let mut left = steps;
+    for (i, node) in nodes.chunks_exact(NODE_SIZE).enumerate() {
+        let had = usize::from(counted(node, Sort::Node)).min(left.len() / STEP_SIZE);
+        let (own, others) = left.split_at(STEP_SIZE * had);
+        let named = record_line(out, end, node, Sort::Node, i);
+        end = step_lines(out, named, own, lead, 0, first);
+        first += had;
+        left = others;
+    }
+    Told { end, steps: first }
+}
+
+// The lines of the steps that no node has. The first is number `first` over the whole file.
+fn left_lines(out: &mut [u8], at: usize, steps: &[u8], first: usize) -> usize
+    requires { first + length steps.now < 2 ^ 64 }
+    ensures { Added out.old at (shown_left (length steps.now / step_size) first steps.now) out.new result }
+{
+    if steps.len() < STEP_SIZE {
         return at;
     }
     let told = append(out, at, b"# steps of no leaf\n");
-    step_lines(out, told, steps, first, all, 0)
+    step_lines(out, told, steps, &Bare, first, first)
 }
 
-// Every record's line. A node's steps are the next ones that no node before it has.
+// Every record's line, with those of the steps that no node has.
 pub fn print(out: &mut [u8], at: usize, nodes: &[u8], steps: &[u8]) -> usize
     ensures { Added out.old at (shown_records nodes.now steps.now) out.new result }
 {
-    let count = nodes.len() / NODE_SIZE;
-    let all = steps.len() / STEP_SIZE;
-    let mut end = at;
-    let mut first = 0;
-    let mut i = 0;
-    while i < count {
-        let from = NODE_SIZE * i;
-        let node = &nodes[from..from + NODE_SIZE];
-        let next = first + least(counted(node, Sort::Node) as usize, all - first);
-        let named = record_line(out, end, node, Sort::Node, i);
-        end = step_lines(out, named, steps, first, next, first);
-        first = next;
-        i += 1;
-    }
-    left_lines(out, end, steps, first)
+    let told = record_lines(out, at, nodes, steps, &Bare);
+    let (_, left) = steps.split_at(STEP_SIZE * told.steps);
+    left_lines(out, told.end, left, told.steps)
 }

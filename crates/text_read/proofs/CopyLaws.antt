@@ -1,11 +1,9 @@
 -- One line copied, and what is left to be copied.
 use Prim.Native.Nat.{ℕ, zero, suc, ◌+◌, ◌*◌, ◌≤◌, ◌<◌}
 use native.Mathlib.Omega.{arith}
-use mathlib.Core.Path.{◌≡◌, refl, sym, ap, ◌∙◌}
+use mathlib.Core.Path.{◌≡◌, refl, sym, ap, ◌∙◌, subst}
 use mathlib.Core.List.{List, [], ◌∷◌}
-use mathlib.Core.Bool.{Bool, true, false}
-use borrow.Author.Tests.{le-ltb, eq-eqb, ne_eqb, eqb-true, eqb-false}
-use lib.Dec.{eqb, leb, leb→le}
+use lib.Dec.{leb, leb→le}
 use lib.ListN.{length, length-append}
 use Rattle.spec_policy.specs.Bytes.{Bytes, put}
 use Rattle.spec_policy.specs.Lists.{every, listed}
@@ -16,8 +14,9 @@ use Rattle.spec_text.proofs.RecordLaws.{record-size}
 use Rattle.text_forms.specs.Table.{form_count, node_forms, no_form, form_at}
 use Rattle.text_forms.proofs.TableLaws.{tested_at}
 use Rattle.text_forms.proofs.FormLaws.{form-node, form-step}
+use Rattle.text_line.specs.declared.Line as code
+use Rattle.text_line.specs.declared.Line.TheVariants.{Nothing, Unreadable, Record}
 use Rattle.text_line.specs.Lines.{line_meant}
-use Rattle.text_measure.proofs.CountLaws.{meant-entry}
 use Rattle.text_read.specs.Written.{lead_in, written, Roomy, Copied}
 use Rattle.text_read.proofs.WrittenLaws.{NodeBefore, node-before, StepBefore, step-before, lead_is}
 
@@ -41,7 +40,7 @@ few-room : (form : ℕ) → form < form_count → (form_at form).room ≤ 255
 unfolding listed every form_at no_form forms
 few-room form h = leb→le (form_at form).room 255 (tested_at (λ i. leb (form_at i).room 255) form_count tt form h)
 
-module _ (form : ℕ) (xs : Fields) (ls : List Line) (i j : ℕ) (N S : Bytes) (r : Roomy (line_meant form xs ∷ ls) i j N S) where
+module _ (form : ℕ) (xs : Fields) (ls : List Line) (i j : ℕ) (N S : Bytes) (r : Roomy (entry (form_at form) xs ∷ ls) i j N S) where
   module _ (h : form < node_forms) where
     f : Form
     f = form_at form
@@ -50,7 +49,7 @@ module _ (form : ℕ) (xs : Fields) (ls : List Line) (i j : ℕ) (N S : Bytes) (
     unfolding f read_from
     before =
         node-before xs (read_from (form_at form).room (suc r.number) ls) r.lead r.nodes r.steps
-        (sym (ap (λ (l : Line). read_from r.room r.number (l ∷ ls)) (meant-entry form xs (omega arith)) ∙ rw (form-node form h, read_from)) ∙ r.reads)
+        (sym (rw (form-node form h, read_from)) ∙ r.reads)
 
     size_of : length r.nodes ≡ 16 + length before.rest
     unfolding size
@@ -67,10 +66,10 @@ module _ (form : ℕ) (xs : Fields) (ls : List Line) (i j : ℕ) (N S : Bytes) (
     unfolding f
     few-steps = omega (arith, lead-here, lead-few ls f.room (suc r.number) before.lead before.rest r.steps before.is, few-room form (omega arith))
 
-    pub node-copied : (N' : Bytes) → N' ≡ put N (16 * i) (record_of node (lead_in ls) xs) → Copied (line_meant form xs) ls i j N S (i + 1) j N' S
+    pub node-copied : (N' : Bytes) → N' ≡ put N (16 * i) (record_of node (lead_in ls) xs) → Copied (entry (form_at form) xs) ls i j N S (i + 1) j N' S
     unfolding f written size
     node-copied N' e = record {
-      same = ap (λ (l : Line). written (l ∷ ls) i j N S) (meant-entry form xs (omega arith)) ∙ rw (form-node form h, written) (ap (λ (b : Bytes). written ls (i + 1) j b S) (sym e));
+      same = rw (form-node form h, written) (ap (λ (b : Bytes). written ls (i + 1) j b S) (sym e));
       roomy = record {
         room = f.room;
         number = suc r.number;
@@ -95,7 +94,7 @@ module _ (form : ℕ) (xs : Fields) (ls : List Line) (i j : ℕ) (N S : Bytes) (
     step-read (suc m) e l = (m, omega arith, step-before xs (read_from m (suc r.number) ls) r.lead r.nodes r.steps (rw (form-step form low h, read_from) at e))
 
     after : (m : ℕ) × (m ≤ 255) × StepBefore xs (read_from m (suc r.number) ls) r.lead r.nodes r.steps
-    after = step-read r.room (ap (λ (l : Line). read_from r.room r.number (l ∷ ls)) (sym (meant-entry form xs h)) ∙ r.reads) r.few
+    after = step-read r.room r.reads r.few
 
     steps-size : length r.steps ≡ 12 + length after.2.rest
     unfolding size
@@ -105,10 +104,10 @@ module _ (form : ℕ) (xs : Fields) (ls : List Line) (i j : ℕ) (N S : Bytes) (
     unfolding size
     step-room = omega (arith, r.steps_fit, steps-size)
 
-    pub step-copied : (S' : Bytes) → S' ≡ put S (12 * j) (record_of step 0 xs) → Copied (line_meant form xs) ls i j N S i (j + 1) N S'
+    pub step-copied : (S' : Bytes) → S' ≡ put S (12 * j) (record_of step 0 xs) → Copied (entry (form_at form) xs) ls i j N S i (j + 1) N S'
     unfolding written size
     step-copied S' e = record {
-      same = ap (λ (l : Line). written (l ∷ ls) i j N S) (meant-entry form xs h) ∙ rw (form-step form low h, written) (ap (λ (b : Bytes). written ls i (j + 1) N b) (sym e));
+      same = rw (form-step form low h, written) (ap (λ (b : Bytes). written ls i (j + 1) N b) (sym e));
       roomy = record {
         room = after.0;
         number = suc r.number;
@@ -122,36 +121,42 @@ module _ (form : ℕ) (xs : Fields) (ls : List Line) (i j : ℕ) (N S : Bytes) (
       };
     }
 
-  -- what is neither is nothing, since the lines are read
-  nothing_read : form ≡ form_count → Copied (line_meant form xs) ls i j N S i j N S
-  unfolding line_meant read_from written
-  nothing_read e =
-      let q : line_meant form xs ≡ nothing = rw (line_meant, le-ltb form form_count (omega arith), eq-eqb form form_count e) in
-      record {
-        same = ap (λ (l : Line). written (l ∷ ls) i j N S) q;
-        roomy = record {
-          room = r.room;
-          number = suc r.number;
-          lead = r.lead;
-          nodes = r.nodes;
-          steps = r.steps;
-          reads = ap (λ (l : Line). read_from r.room r.number (l ∷ ls)) (sym q) ∙ r.reads;
-          few = r.few;
-          nodes_fit = r.nodes_fit;
-          steps_fit = r.steps_fit;
-        };
-      }
+-- what is no record is nothing, since the lines are read
+pub nothing-copied : (ls : List Line) (i j : ℕ) (N S : Bytes) → Roomy (nothing ∷ ls) i j N S → Copied nothing ls i j N S i j N S
+unfolding read_from written
+nothing-copied ls i j N S r = record {
+  same = refl;
+  roomy = record {
+    room = r.room;
+    number = suc r.number;
+    lead = r.lead;
+    nodes = r.nodes;
+    steps = r.steps;
+    reads = r.reads;
+    few = r.few;
+    nodes_fit = r.nodes_fit;
+    steps_fit = r.steps_fit;
+  };
+}
 
-  none-bad : (form ≡ form_count → ⊥) → form_count ≤ form → ⊥
-  unfolding line_meant read_from
-  none-bad n h =
-      let q : line_meant form xs ≡ unreadable = rw (line_meant, le-ltb form form_count h, ne_eqb form form_count n) in
-      let u : wrong r.number ≡ found r.lead r.nodes r.steps = ap (λ (l : Line). read_from r.room r.number (l ∷ ls)) (sym q) ∙ r.reads in
-      let z : ◌≡◌ {A = ℕ} 0 1 = cc in omega arith
+pub none-bad : (ls : List Line) (i j : ℕ) (N S : Bytes) → Roomy (unreadable ∷ ls) i j N S → ⊥
+unfolding read_from
+none-bad ls i j N S r =
+    let u : wrong r.number ≡ found r.lead r.nodes r.steps = r.reads in
+    absurd (cc)
 
-  pub none-copied : form_count ≤ form → Copied (line_meant form xs) ls i j N S i j N S
-  none-copied h = go (eqb form form_count) refl
-    where
-      go : (b : Bool) → eqb form form_count ≡ b → Copied (line_meant form xs) ls i j N S i j N S
-      go true e = nothing_read (eqb-true form form_count e)
-      go false e = absurd (none-bad (eqb-false form form_count e) h)
+-- ---- a line as the code has it
+
+pub roomy_as : (line : code.Line) {l : Line} {ls : List Line} {i j : ℕ} {N S : Bytes} → Roomy (line_meant line ∷ ls) i j N S → line_meant line ≡ l → Roomy (l ∷ ls) i j N S
+roomy_as line {l} {ls} {i} {j} {N} {S} r e = subst (λ (x : Line). Roomy (x ∷ ls) i j N S) e r
+
+pub copied_as : (line : code.Line) {l : Line} {ls : List Line} {i j i' j' : ℕ} {N S N' S' : Bytes} → Copied l ls i j N S i' j' N' S' → line_meant line ≡ l
+    → Copied (line_meant line) ls i j N S i' j' N' S'
+copied_as line {l} {ls} {i} {j} {i'} {j'} {N} {S} {N'} {S'} c e = subst (λ (x : Line). Copied x ls i j N S i' j' N' S') (sym e) c
+
+pub other-copied : (line : code.Line) → ((form : ℕ) (xs : Fields) → line ≡ Record form xs → ⊥) → (ls : List Line) (i j : ℕ) (N S : Bytes)
+    → Roomy (line_meant line ∷ ls) i j N S → Copied (line_meant line) ls i j N S i j N S
+unfolding line_meant
+other-copied Nothing n ls i j N S r = nothing-copied ls i j N S r
+other-copied Unreadable n ls i j N S r = absurd (none-bad ls i j N S r)
+other-copied (Record form xs) n ls i j N S r = absurd (n form xs refl)

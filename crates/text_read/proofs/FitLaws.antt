@@ -1,12 +1,11 @@
 -- The first four fields of a line that was read are bytes.
 use Prim.Native.Nat.{ℕ, zero, suc, ◌-◌, ◌^◌, ◌≤◌, ◌<◌}
 use native.Mathlib.Omega.{arith}
-use mathlib.Core.Path.{◌≡◌, refl, ap, ◌∙◌, subst}
+use mathlib.Core.Path.{◌≡◌, refl, ap, subst}
 use mathlib.Core.Logic.{◌⊎◌, inl, inr, ⊎_elim}
 use mathlib.Core.Bool.{Bool, ◌&&◌, ◌||◌}
 use mathlib.Core.List.{List, [], ◌∷◌}
 use mathlib.Core.Option.{Option, none, some}
-use borrow.Author.Tests.{lt-ltb}
 use lib.Dec.{T, leb, ltb, leb→le, ltb→lt}
 use lib.ListN.{get_or, set}
 use Rattle.actions.proofs.Tests.{and_left, and_right, or_cases}
@@ -18,7 +17,10 @@ use Rattle.spec_text.specs.Reading.{Taken, took, untaken, took_if, taken, filled
 use Rattle.text_words.proofs.TakenLaws.{numeral-bound}
 use Rattle.text_forms.specs.Table.{form_count, no_form, form_at}
 use Rattle.text_forms.proofs.TableLaws.{tested_at}
-use Rattle.text_line.specs.Lines.{line_meant}
+use Rattle.text_line.specs.declared.Line as code
+use Rattle.text_line.specs.declared.Line.TheVariants.{Nothing, Unreadable, Record}
+use Rattle.text_line.specs.Lines.{line_meant, InTable}
+use Rattle.text_read.specs.Written.{BytesFirst}
 
 -- the first four fields are bytes
 abbrev pub BytesFit : Fields → Type 0
@@ -103,7 +105,9 @@ module _ (form : ℕ) (fields : Fields) (h : form < form_count) where
       go none q = let u : unreadable ≡ entry (form_at form) fields = rw (line_of, q) at e in let z : ◌≡◌ {A = ℕ} 0 1 = cc in absurd (omega arith)
       go (some f) q = read_fits f ws (filled f.slots ws (bare f)) refl (rw (line_of, q) at e)
 
-  -- whatever words it was read from
-  pub line-fits : (ws : List Bytes) → line_of ws ≡ line_meant form fields → BytesFit fields
-  unfolding line_meant
-  line-fits ws is = entry-fits ws (is ∙ rw (line_meant, lt-ltb form form_count h))
+-- whatever words it was read from
+pub line-fits : (line : code.Line) → InTable line → (ws : List Bytes) → line_of ws ≡ line_meant line → BytesFirst line
+unfolding line_meant
+line-fits Nothing h ws is = tt
+line-fits Unreadable h ws is = tt
+line-fits (Record form fields) h ws is = entry-fits form fields h ws is

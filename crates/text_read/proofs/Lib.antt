@@ -4,3 +4,4 @@ pub mod LeadLaws
 pub mod StoreLaws
 pub mod CopyLaws
 pub mod ReadLaws
+pub mod SpellLaws

@@ -9,16 +9,18 @@ use lib.Dec.{leb}
 use lib.ListN.{length, drop, length-append, drop_of_length-le}
 use Rattle.spec_policy.specs.Bytes.{Bytes, put}
 use Rattle.spec_text.specs.Words.{lines, lines_from, words, words_from, ended}
-use Rattle.spec_text.specs.Forms.{Sort, node, step, size, Fields, record_of}
+use Rattle.spec_text.specs.Forms.{Sort, node, step, size, record_of}
 use Rattle.spec_text.specs.Reading.{records, Line, nothing, unreadable, entry, line_of, read_lines, Found, found, wrong, read_from, answer, read_text}
 use Rattle.spec_text.specs.Reading as text
 use Rattle.spec_text.proofs.RecordLaws.{record-size}
+use Rattle.text_line.specs.declared.Line as code
 use Rattle.text_line.specs.Lines.{line_meant}
 use Rattle.text_measure.specs.Measures.{ReadsOn, sized, wrong_at, sizes_read}
 use Rattle.text_measure.proofs.LineLaws.{nothing-more, read-on}
 use Rattle.text_read.specs.Written.{lead_in, Buffers, buffers, written, Roomy, Ready}
 use Rattle.text_read.specs.Transcribed.{gave, transcribed}
-use Rattle.text_read.specs.declared.Answer.TheVariants.{Read, BadLine, Short}
+use Rattle.std.specs.Prelude.{Ok, Err}
+use Rattle.text_read.specs.declared.ReadError.TheVariants.{BadLine, Short}
 use Rattle.text_read.proofs.WrittenLaws.{node-before, step-before, NodeBefore, StepBefore, written-found}
 use Rattle.text_read.proofs.FitLaws.{line-fits}
 
@@ -34,26 +36,27 @@ written_last (entry f xs) i j N S = go f.sort refl
     go node e = rw (e, written)
     go step e = rw (e, written)
 
-module _ (text : Bytes) (at form : ℕ) (fields : Fields) (next : ℕ) (on : ReadsOn text at form fields next) (i j : ℕ) (N S : Bytes) where
-  pub ready : Roomy (read_lines (drop at text)) i j N S → Ready text next form fields i j N S
+module _ (text : Bytes) (at : ℕ) (line : code.Line) (next : ℕ) (on : ReadsOn text at line next) (i j : ℕ) (N S : Bytes) where
+  pub ready : Roomy (read_lines (drop at text)) i j N S → Ready text next line i j N S
   ready r = record {
     inside = on.inside;
-    bytes = λ h. line-fits form fields h on.spoken on.is;
+    in_table = on.in_table;
+    bytes = line-fits line on.in_table on.spoken on.is;
     roomy = record {
       room = r.room;
       number = r.number;
       lead = r.lead;
       nodes = r.nodes;
       steps = r.steps;
-      reads = sym (read-on (read_from r.room r.number) (λ l. nothing-more l r.room r.number) text at next (line_meant form fields) on.on) ∙ r.reads;
+      reads = sym (read-on (read_from r.room r.number) (λ l. nothing-more l r.room r.number) text at next (line_meant line) on.on) ∙ r.reads;
       few = r.few;
       nodes_fit = r.nodes_fit;
       steps_fit = r.steps_fit;
     };
   }
 
-  pub written_on : written (read_lines (drop at text)) i j N S ≡ written (line_meant form fields ∷ read_lines (drop next text)) i j N S
-  written_on = read-on (λ ls. written ls i j N S) (λ l. written_last l i j N S) text at next (line_meant form fields) on.on
+  pub written_on : written (read_lines (drop at text)) i j N S ≡ written (line_meant line ∷ read_lines (drop next text)) i j N S
+  written_on = read-on (λ ls. written ls i j N S) (λ l. written_last l i j N S) text at next (line_meant line) on.on
 
 pub written-end : (text : Bytes) (at i j : ℕ) (N S : Bytes) → length text ≤ at → written (read_lines (drop at text)) i j N S ≡ buffers N S
 unfolding written read_lines lines lines_from words words_from ended line_of
@@ -92,13 +95,13 @@ whole (entry f xs ∷ ls) room n k ns ss e = go f.sort refl room e (λ r. whole 
 -- ---- the whole text
 
 module _ (t N S : Bytes) where
-  pub gave-bad : (line : ℕ) → wrong_at line ≡ sizes_read (read_text t) → transcribed (read_text t) N S ≡ gave (BadLine line) N S
+  pub gave-bad : (line : ℕ) → wrong_at line ≡ sizes_read (read_text t) → transcribed (read_text t) N S ≡ gave (Err (BadLine line)) N S
   unfolding read_text answer sizes_read transcribed
   gave-bad line = by (read_from 0 1 (read_lines t))
     where
-      by : (f : Found) → wrong_at line ≡ sizes_read (answer f) → transcribed (answer f) N S ≡ gave (BadLine line) N S
+      by : (f : Found) → wrong_at line ≡ sizes_read (answer f) → transcribed (answer f) N S ≡ gave (Err (BadLine line)) N S
       by (found k ns ss) e = let z : ◌≡◌ {A = ℕ} 0 1 = cc in absurd (omega arith)
-      by (wrong n) e = let q : n ≡ line = cc in ap (λ (x : ℕ). gave (BadLine x) N S) q
+      by (wrong n) e = let q : n ≡ line = cc in ap (λ (x : ℕ). gave (Err (BadLine x)) N S) q
 
   -- What the text is read as, where so many records were counted.
   pub record Counts (n m : ℕ) : Type 0 where
@@ -126,12 +129,12 @@ module _ (t N S : Bytes) where
     unfolding read_text answer
     is_read = ap answer c.reads
 
-    pub short-nodes : length N / 16 < n → transcribed (read_text t) N S ≡ gave Short N S
+    pub short-nodes : length N / 16 < n → transcribed (read_text t) N S ≡ gave (Err Short) N S
     unfolding transcribed
     short-nodes h =
         ap (λ (r : text.Read). transcribed r N S) is_read ∙ rw (transcribed, lt-leb (length c.nodes) (length N) (omega (arith, c.nodes_long)))
 
-    pub short-steps : length S / 12 < m → transcribed (read_text t) N S ≡ gave Short N S
+    pub short-steps : length S / 12 < m → transcribed (read_text t) N S ≡ gave (Err Short) N S
     unfolding transcribed
     short-steps h =
         ap (λ (r : text.Read). transcribed r N S) is_read
@@ -152,7 +155,7 @@ module _ (t N S : Bytes) where
         steps_fit = omega (arith, c.steps_long);
       }
 
-      pub gave_read : (N' S' : Bytes) → written (read_lines t) 0 0 N S ≡ buffers N' S' → transcribed (read_text t) N S ≡ gave (Read n m) N' S'
+      pub gave_read : (N' S' : Bytes) → written (read_lines t) 0 0 N S ≡ buffers N' S' → transcribed (read_text t) N S ≡ gave (Ok (record { nodes = n; steps = m })) N' S'
       unfolding transcribed size
       gave_read N' S' e =
           let w : buffers N' S' ≡ buffers (put N 0 c.nodes) (put S 0 c.steps) =
@@ -161,4 +164,4 @@ module _ (t N S : Bytes) where
           let y : length c.steps / 12 ≡ m = omega (arith, c.steps_long) in
           ap (λ (r : text.Read). transcribed r N S) is_read
           ∙ rw (transcribed, le-leb (length c.nodes) (length N) (omega (arith, c.nodes_long)), le-leb (length c.steps) (length S) (omega (arith, c.steps_long)))
-          (ap₂ (λ (u v : ℕ). gave (Read u v) (put N 0 c.nodes) (put S 0 c.steps)) x y ∙ ap (λ (q : Buffers). gave (Read n m) q.nodes q.steps) (sym w))
+          (ap₂ (λ (u v : ℕ). gave (Ok (record { nodes = u; steps = v })) (put N 0 c.nodes) (put S 0 c.steps)) x y ∙ ap (λ (q : Buffers). gave (Ok (record { nodes = n; steps = m })) q.nodes q.steps) (sym w))

@@ -1,10 +1,11 @@
 -- Lines written into two buffers, record after record.
-use Rattle.std.specs.Prelude.{ℕ, suc, ◌+◌, ◌*◌, ◌≤◌, ◌<◌, ◌≡◌, List, [], ◌∷◌, length, get_or, drop}
+use Rattle.std.specs.Prelude.{ℕ, suc, ◌+◌, ◌*◌, ◌≤◌, ◌≡◌, List, [], ◌∷◌, Option, Some, None, length, get_or, drop}
 use Rattle.spec_policy.specs.Bytes.{Bytes, put}
-use Rattle.spec_text.specs.Forms.{node, step, size, Fields, record_of}
+use Rattle.spec_text.specs.Forms.{node, step, size, record_of}
 use Rattle.spec_text.specs.Reading.{Line, nothing, unreadable, entry, read_lines, found, read_from}
-use Rattle.text_forms.specs.Table.{form_count}
-use Rattle.text_line.specs.Lines.{line_meant}
+use Rattle.text_line.specs.declared.Line as code
+use Rattle.text_line.specs.declared.Line.TheVariants.{Nothing, Unreadable, Record}
+use Rattle.text_line.specs.Lines.{line_meant, InTable}
 
 -- how many steps stand before the first node
 unfoldable pub lead_in : List Line → ℕ
@@ -12,6 +13,11 @@ lead_in [] = 0
 lead_in (nothing ∷ ls) = lead_in ls
 lead_in (unreadable ∷ ls) = 0
 lead_in (entry f xs ∷ ls) = elim f.sort [ node ↦ 0 | step ↦ suc (lead_in ls) ]
+
+-- the steps that a line leads in with, before so many; none before a node
+unfoldable pub leads : Option ℕ → ℕ → ℕ
+leads None k = 0
+leads (Some n) k = n + k
 
 pub record Buffers : Type 0 where
   pub nodes : Bytes
@@ -42,11 +48,18 @@ pub record Roomy (ls : List Line) (i j : ℕ) (ns ss : Bytes) : Type 0 where
   pub nodes_fit : size node * i + length nodes ≤ length ns
   pub steps_fit : size step * j + length steps ≤ length ss
 
+-- a record's first four fields are bytes
+abbrev pub BytesFirst : code.Line → Type 0
+BytesFirst Nothing = Unit {0}
+BytesFirst Unreadable = Unit {0}
+BytesFirst (Record form fields) = (k : ℕ) → k ≤ 3 → get_or fields k 0 ≤ 255
+
 -- A line that was read may be copied, and those after it.
-pub record Ready (text : Bytes) (next form : ℕ) (fields : Fields) (i j : ℕ) (ns ss : Bytes) : Type 0 where
+pub record Ready (text : Bytes) (next : ℕ) (line : code.Line) (i j : ℕ) (ns ss : Bytes) : Type 0 where
   pub inside : next ≤ length text
-  pub bytes : form < form_count → (k : ℕ) → k ≤ 3 → get_or fields k 0 ≤ 255
-  pub roomy : Roomy (line_meant form fields ∷ read_lines (drop next text)) i j ns ss
+  pub in_table : InTable line
+  pub bytes : BytesFirst line
+  pub roomy : Roomy (line_meant line ∷ read_lines (drop next text)) i j ns ss
 
 -- One line was copied: what is to be written after it is what was to be written, and there is room for it.
 pub record Copied (l : Line) (ls : List Line) (i j : ℕ) (ns ss : Bytes) (i' j' : ℕ) (ns' ss' : Bytes) : Type 0 where

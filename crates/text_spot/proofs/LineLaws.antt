@@ -1,49 +1,20 @@
 -- Laws of the line that a record is read from.
-use Prim.Native.Nat.{ℕ, zero, suc, ◌+◌, ◌-◌, ◌≤◌, ◌<◌}
+use Prim.Native.Nat.{ℕ, zero, suc, ◌+◌, ◌-◌, ◌≤◌}
 use native.Mathlib.Numerals.{add-one}
 use native.Mathlib.Omega.{arith}
 use mathlib.Core.Path.{◌≡◌, refl, sym, ap, ◌∙◌}
-use mathlib.Core.Bool.{Bool, true, false, ◌&&◌, not}
+use mathlib.Core.Bool.{Bool, true, false}
 use mathlib.Core.List.{List, [], ◌∷◌}
-use borrow.Author.Tests.{ltb-true}
-use lib.Dec.{ltb, eqb}
 use lib.ListN.{length, drop, drop_of_length-le}
 use Rattle.spec_policy.specs.Bytes.{Bytes}
 use Rattle.spec_text.specs.Words.{lines, lines_from, words, words_from, ended}
-use Rattle.spec_text.specs.Forms.{Sort, node, step, same_sort, Fields}
+use Rattle.spec_text.specs.Forms.{Sort}
 use Rattle.spec_text.specs.Reading.{Line, nothing, line_of, read_lines}
 use Rattle.spec_text.specs.Where.{is_of, line_from}
-use Rattle.text_forms.specs.Table.{form_count, node_forms, form_at}
-use Rattle.text_forms.proofs.FormLaws.{form-node, form-step}
+use Rattle.text_line.specs.declared.Line as code
 use Rattle.text_line.specs.Lines.{line_meant}
 use Rattle.text_measure.specs.Measures.{ReadsOn}
 use Rattle.text_measure.proofs.LineLaws.{read-on}
-use Rattle.text_measure.proofs.CountLaws.{meant-entry}
-use Rattle.text_spot.specs.Meaning.{sort_of}
-
--- ---- the sort of a line's record
-
-module _ (form : ℕ) (xs : Fields) where
-  entry-is : (s t : Sort) → form < form_count → (form_at form).sort ≡ t → is_of s (line_meant form xs) ≡ same_sort t s
-  unfolding is_of
-  entry-is s t h e = ap (is_of s) (meant-entry form xs h) ∙ ap (λ (u : Sort). same_sort u s) e
-
-  pub node-form : (b : Bool) → form < node_forms → not b ≡ is_of (sort_of b) (line_meant form xs)
-  unfolding sort_of same_sort
-  node-form true h = sym (entry-is step node (omega arith) (form-node form h))
-  node-form false h = sym (entry-is node node (omega arith) (form-node form h))
-
-  pub other-form : (b : Bool) → node_forms ≤ form → (b && ltb form form_count) ≡ is_of (sort_of b) (line_meant form xs)
-  unfolding sort_of same_sort is_of line_meant
-  other-form b h = go (ltb form form_count) refl (eqb form form_count) refl b
-    where
-      go : (x : Bool) → ltb form form_count ≡ x → (y : Bool) → eqb form form_count ≡ y → (b : Bool) → (b && ltb form form_count) ≡ is_of (sort_of b) (line_meant form xs)
-      go true p y q true = p ∙ sym (entry-is step step (ltb-true form form_count p) (form-step form h (ltb-true form form_count p)))
-      go true p y q false = sym (entry-is node step (ltb-true form form_count p) (form-step form h (ltb-true form form_count p)))
-      go false p true q true = rw (line_meant, p, q)
-      go false p true q false = rw (line_meant, p, q)
-      go false p false q true = rw (line_meant, p, q)
-      go false p false q false = rw (line_meant, p, q)
 
 -- ---- one line
 
@@ -87,13 +58,13 @@ module _ (text : Bytes) (s : Sort) (i : ℕ) where
     unfolding line_from is_of read_lines lines lines_from words words_from ended line_of
     not_there h = sym (p.rest ∙ ap (λ (bs : Bytes). line_from s left line (read_lines bs)) (drop_of_length-le text {i = at} h))
 
-    module _ (form : ℕ) (fields : Fields) (next : ℕ) (on : ReadsOn text at form fields next) where
-      at-line : line_from s i 1 (read_lines text) ≡ line_from s left line (line_meant form fields ∷ read_lines (drop next text))
-      at-line = p.rest ∙ read-on (line_from s left line) (λ l. line_same s left line l) text at next (line_meant form fields) on.on
+    module _ (l : code.Line) (next : ℕ) (on : ReadsOn text at l next) where
+      at-line : line_from s i 1 (read_lines text) ≡ line_from s left line (line_meant l ∷ read_lines (drop next text))
+      at-line = p.rest ∙ read-on (line_from s left line) (λ m. line_same s left line m) text at next (line_meant l) on.on
 
-      pub there : is_of s (line_meant form fields) ≡ true → left ≡ 0 → line ≡ line_from s i 1 (read_lines text)
-      there e z = sym (at-line ∙ ap (λ (k : ℕ). line_from s k line (line_meant form fields ∷ read_lines (drop next text))) z
-          ∙ line-here s line (line_meant form fields) (read_lines (drop next text)) e)
+      pub there : is_of s (line_meant l) ≡ true → left ≡ 0 → line ≡ line_from s i 1 (read_lines text)
+      there e z = sym (at-line ∙ ap (λ (k : ℕ). line_from s k line (line_meant l ∷ read_lines (drop next text))) z
+          ∙ line-here s line (line_meant l) (read_lines (drop next text)) e)
 
       sought : (k : ℕ) → line_from s i 1 (read_lines text) ≡ line_from s k (suc line) (read_lines (drop next text)) → Sought k next (line + 1)
       sought k e = record {
@@ -102,11 +73,11 @@ module _ (text : Bytes) (s : Sort) (i : ℕ) where
         rest = e ∙ ap (λ (n : ℕ). line_from s k n (read_lines (drop next text))) (sym (add-one line));
       }
 
-      pub sought-next : is_of s (line_meant form fields) ≡ true → (left ≡ 0 → ⊥) → Sought (left - 1) next (line + 1)
+      pub sought-next : is_of s (line_meant l) ≡ true → (left ≡ 0 → ⊥) → Sought (left - 1) next (line + 1)
       sought-next e m =
           let z : left ≡ suc (left - 1) = omega arith in
-          sought (left - 1) (at-line ∙ ap (λ (k : ℕ). line_from s k line (line_meant form fields ∷ read_lines (drop next text))) z
-          ∙ line-next s line (line_meant form fields) (read_lines (drop next text)) (left - 1) e)
+          sought (left - 1) (at-line ∙ ap (λ (k : ℕ). line_from s k line (line_meant l ∷ read_lines (drop next text))) z
+          ∙ line-next s line (line_meant l) (read_lines (drop next text)) (left - 1) e)
 
-      pub sought-other : is_of s (line_meant form fields) ≡ false → Sought left next (line + 1)
-      sought-other e = sought left (at-line ∙ line_other s line (line_meant form fields) (read_lines (drop next text)) left e)
+      pub sought-other : is_of s (line_meant l) ≡ false → Sought left next (line + 1)
+      sought-other e = sought left (at-line ∙ line_other s line (line_meant l) (read_lines (drop next text)) left e)

@@ -3,10 +3,8 @@ use Prim.Native.Nat.{ℕ, ◌+◌, ◌-◌, ◌*◌, ◌/◌, ◌≤◌, ◌<◌
 use native.Mathlib.Numerals.{add-one}
 use native.Mathlib.Omega.{arith}
 use mathlib.Core.Path.{◌≡◌, sym, ap, ap₂, ◌∙◌}
-use mathlib.Core.Bool.{true, false, ◌&&◌}
 use mathlib.Core.List.{List, ◌∷◌}
 use borrow.Author.Tests.{lt-ltb, le-ltb, eq-eqb, ne_eqb}
-use lib.Dec.{leb}
 use lib.ListN.{length}
 use Rattle.spec_policy.specs.Bytes.{Bytes}
 use Rattle.spec_policy.specs.Lists.{listed}
@@ -32,14 +30,9 @@ module _ (n p : ℕ) where
     unfolding which
     by_layout e = rw (which, eq-eqb rule 4 e)
 
-    module _ (m : rule ≡ 4 → ⊥) where
-      pub by-step : (leb 6 rule && leb rule 8) ≡ true → aRecord step p ≡ which n (fault_on rule p)
-      unfolding which rule_sort
-      by-step e = rw (which, ne_eqb rule 4 m, rule_sort, e)
-
-      pub by-node : (leb 6 rule && leb rule 8) ≡ false → aRecord node p ≡ which n (fault_on rule p)
-      unfolding which rule_sort
-      by-node e = rw (which, ne_eqb rule 4 m, rule_sort, e)
+    pub by_rule : (rule ≡ 4 → ⊥) → aRecord (rule_sort rule) p ≡ which n (fault_on rule p)
+    unfolding which
+    by_rule m = rw (which, ne_eqb rule 4 m)
 
 -- ---- a step's leaf
 

@@ -1,30 +1,23 @@
 -- Without what leads the steps, a tally's lines are the policy's text.
 use Prim.Native.Nat.{ℕ, zero, suc, ◌+◌, ◌*◌, ◌/◌, min}
 use native.Mathlib.Omega.{arith}
-use mathlib.Core.Path.{◌≡◌, refl, ap, ap₂}
+use mathlib.Core.Path.{◌≡◌, refl, ap₂}
 use mathlib.Core.List.{[], ◌∷◌, ◌++◌}
 use lib.ListN.{length, take, drop}
 use Rattle.actions.specs.Sets.{ActionSet}
 use Rattle.spec_policy.specs.Bytes.{Bytes, Small}
 use Rattle.spec_policy.specs.Records.{node_bytes, step_bytes}
 use Rattle.spec_check.specs.Check.{passes, check}
-use Rattle.spec_text.specs.Forms.{node, step, size}
-use Rattle.spec_text.specs.Printing.{Print, text, both, count_in, record_text, steps_text, nodes_text, printed, shown_record, shown_steps, steps_had, shown_left, shown_nodes, shown_records}
+use Rattle.spec_text.specs.Forms.{node, size}
+use Rattle.spec_text.specs.Printing.{Print, text, both, count_in, record_text, steps_text, nodes_text, printed, shown_record, steps_had, shown_left, shown_nodes, shown_records}
 use Rattle.spec_text.proofs.TextLaws.{both-parts}
 use Rattle.spec_text.proofs.ShownLaws.{steps-long}
 use Rattle.spec_text.proofs.Printable.{read-printed}
-use Rattle.text_tally.specs.Lines.{led_steps, led_nodes, led_records, Unled}
-
-none : ℕ → Bytes
-none i = []
-
-steps-unled : (n j i : ℕ) (ss : Bytes) → led_steps none n j i ss ≡ shown_steps n j ss
-unfolding led_steps shown_steps none
-steps-unled zero j i ss = refl
-steps-unled (suc n) j i ss = ap (λ (x : Bytes). shown_record step j (take (size step) ss) ++ x) (steps-unled n (suc j) (suc i) (drop (size step) ss))
+use Rattle.text_print.proofs.PrintLaws.{steps-unled}
+use Rattle.text_tally.specs.Lines.{led_nodes, led_records, Unled}
 
 -- where records have a text, no step is left over
-nodes-unled : (k i j : ℕ) (ns ss t : Bytes) → nodes_text k i ns ss ≡ text t → led_nodes none k i j ns ss ≡ shown_nodes k i j ns ss
+nodes-unled : (k i j : ℕ) (ns ss t : Bytes) → nodes_text k i ns ss ≡ text t → led_nodes (λ _. []) k i j ns ss ≡ shown_nodes k i j ns ss
 unfolding nodes_text led_nodes shown_nodes shown_left steps_had size
 nodes-unled zero i j [] [] t e = refl
 nodes-unled zero i j [] (s ∷ ss) t e = let z : ◌≡◌ {A = ℕ} 0 1 = cc in absurd (omega arith)
@@ -42,7 +35,7 @@ nodes-unled (suc k) i j ns ss t e =
     ap₂ (λ (y z : Bytes). shown_record node i x ++ (y ++ z)) (steps-unled n 0 j ss) (nodes-unled k (suc i) (j + n) (drop 16 ns) (drop (12 * n) ss) q.second r)
 
 pub every-file-unled : (file : Bytes) (r e : ActionSet) → Small file → check file ≡ passes r e → Unled file
-unfolding Unled printed led_records shown_records none
+unfolding Unled printed led_records shown_records
 every-file-unled file r e small h =
     let back = read-printed file r e small h in
     nodes-unled (length (node_bytes file) / size node) 0 0 (node_bytes file) (step_bytes file) back.text back.prints

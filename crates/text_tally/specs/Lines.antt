@@ -1,13 +1,13 @@
 -- What is printed of a tally: the policy's records, each step led by how often it ran, and then the actions that have a count.
-use Rattle.std.specs.Prelude.{ℕ, zero, suc, ◌+◌, ◌*◌, ◌/◌, ◌≡◌, true, false, List, [], ◌++◌, eqb, length, get_or, take, drop}
+use Rattle.std.specs.Prelude.{ℕ, zero, suc, ◌+◌, ◌≡◌, true, false, List, [], ◌++◌, eqb, get_or}
 use Rattle.actions.specs.Sets.{Action}
 use Rattle.spec_policy.specs.Bytes.{Bytes}
 use Rattle.spec_policy.specs.Records.{node_bytes, step_bytes}
 use Rattle.spec_text.specs.Words.{ascii}
 use Rattle.spec_text.specs.Numerals.{decimal}
-use Rattle.spec_text.specs.Forms.{node, step, size}
-use Rattle.spec_text.specs.Printing.{shown_record, steps_had, shown_records}
+use Rattle.spec_text.specs.Printing.{shown_records}
 use Rattle.spec_trace.specs.Tallies.{Tally, action_table, accepted_place, suppressed_place, inserted_place}
+unfoldable pub use Rattle.text_print.specs.Led.{led_steps, led_nodes, led_records}
 
 -- ---- steps
 
@@ -19,23 +19,6 @@ ran_words (suc n) = ascii "ran " ++ decimal (suc n)
 -- what leads the step of this number over the whole file
 unfoldable pub leads : List ℕ → ℕ → Bytes
 leads counts i = ran_words (get_or counts i 0)
-
--- n steps from number j in their leaf on, each led by what is given for it; i is the number of the first over the whole file
-unfoldable pub led_steps : (ℕ → Bytes) → (n j i : ℕ) → Bytes → Bytes
-led_steps lead zero j i ss = []
-led_steps lead (suc n) j i ss = lead i ++ (shown_record step j (take (size step) ss) ++ led_steps lead n (suc j) (suc i) (drop (size step) ss))
-
--- n nodes from number i on, each with its steps; j is the number of the first of the steps over the whole file
-unfoldable pub led_nodes : (ℕ → Bytes) → (n i j : ℕ) → Bytes → Bytes → Bytes
-led_nodes lead zero i j ns ss = []
-led_nodes lead (suc n) i j ns ss =
-    let x = take (size node) ns in
-    let k = steps_had x ss in
-    shown_record node i x ++ (led_steps lead k 0 j ss ++ led_nodes lead n (suc i) (j + k) (drop (size node) ns) (drop (size step * k) ss))
-
--- the nodes in the file's order, with their steps
-unfoldable pub led_records : (ℕ → Bytes) → Bytes → Bytes → Bytes
-led_records lead ns ss = led_nodes lead (length ns / size node) 0 0 ns ss
 
 -- Without what leads them the lines are those that guardtext prints. So it is of every file that passes: no record of it is left out (`every-file-unled`
 -- of proofs/Unled).

@@ -1,28 +1,22 @@
 // A tally as text, put into a lent buffer: a policy's records, each step led by how often it ran, and the actions that have a count.
 #![tactic(auto)]
 
-ghost use Rattle.std.specs.Prelude.{◌≡◌, ◌-◌, ◌*◌, ◌≤◌, ◌<◌, length, get_or, drop};
-ghost use Rattle.spec_policy.specs.Records.{step_size};
+ghost use Rattle.std.specs.Prelude.{ℕ, ◌≡◌, ◌≤◌, ◌<◌, get_or};
+ghost use Rattle.spec_policy.specs.Bytes.{Bytes};
 ghost use Rattle.spec_trace.specs.Counts.{most_count};
 ghost use Rattle.spec_trace.specs.Tallies.{action_table};
 ghost use Rattle.text_append.specs.Added.{Added};
-ghost use Rattle.text_tally.specs.Lines.{ran_words, leads, led_steps, led_records, numbered, action_says, action_line, action_lines, tally_text};
+ghost use Rattle.text_tally.specs.Lines.{ran_words, leads, numbered, action_says, action_line, action_lines, tally_text};
 
 use actions::LAST_ACTION;
-use file_records::{NODE_SIZE, STEP_SIZE};
-use text_append::{append, append_number, least};
-use text_forms::fields::counted;
-use text_forms::forms::Sort;
-use text_lines::record_line;
+use text_append::{append, append_number};
+use text_print::{Lead, record_lines};
 
 // A count of the tally; past the last of them there is none.
 fn count_at(counts: &[u32], i: usize) -> u64
     ensures { (result ≡ get_or counts.now i 0) × (result ≤ most_count) }
 {
-    if i < counts.len() {
-        return counts[i] as u64;
-    }
-    0
+    counts.get(i).copied().map_or(0, u64::from)
 }
 
 // ---- steps
@@ -32,61 +26,25 @@ fn append_ran(out: &mut [u8], at: usize, count: u64) -> usize
     ensures { Added out.old at (ran_words count) out.new result }
 {
     if count == 0 {
-        return append(out, at, b"never");
+        append(out, at, b"never")
+    } else {
+        let told = append(out, at, b"ran ");
+        append_number(out, told, count)
     }
-    let told = append(out, at, b"ran ");
-    append_number(out, told, count)
 }
 
-// The lines of a leaf's steps, from the one at `first` up to `next`.
-fn step_lines(
-    out: &mut [u8],
-    at: usize,
-    steps: &[u8],
-    counts: &[u32],
-    first: usize,
-    next: usize,
-) -> usize
-    requires { (first ≤ next) × (step_size * next ≤ length steps.now) }
-    ensures { Added out.old at
-        (led_steps (leads counts.now) (next - first) 0 first (drop (step_size * first) steps.now)) out.new result }
-{
-    let mut end = at;
-    let mut j = first;
-    while j < next {
-        let from = STEP_SIZE * j;
-        let led = append_ran(out, end, count_at(counts, j));
-        end = record_line(
-            out,
-            led,
-            &steps[from..from + STEP_SIZE],
-            Sort::Step,
-            j - first,
-        );
-        j += 1;
-    }
-    end
+// How often each step ran, by its number over the whole file.
+#[derive(Clone, Copy)]
+struct Ran<'a> {
+    counts: &'a [u32],
 }
 
-// Every record's line. A node's steps are the next ones that no node before it has.
-fn record_lines(out: &mut [u8], at: usize, nodes: &[u8], steps: &[u8], counts: &[u32]) -> usize
-    ensures { Added out.old at (led_records (leads counts.now) nodes.now steps.now) out.new result }
-{
-    let count = nodes.len() / NODE_SIZE;
-    let all = steps.len() / STEP_SIZE;
-    let mut end = at;
-    let mut first = 0;
-    let mut i = 0;
-    while i < count {
-        let from = NODE_SIZE * i;
-        let node = &nodes[from..from + NODE_SIZE];
-        let next = first + least(counted(node, Sort::Node) as usize, all - first);
-        let named = record_line(out, end, node, Sort::Node, i);
-        end = step_lines(out, named, steps, counts, first, next);
-        first = next;
-        i += 1;
+impl<'a> Lead for Ran<'a> {
+    ghost words = { λ ran. leads ran.counts.now };
+
+    fn append_lead(&self, out: &mut [u8], at: usize, step: usize) -> usize {
+        append_ran(out, at, count_at(self.counts, step))
     }
-    end
 }
 
 // ---- actions
@@ -124,21 +82,20 @@ fn action_line(out: &mut [u8], at: usize, counts: &[u32], a: usize) -> usize
 {
     let accepted = count_at(counts, a);
     let suppressed = count_at(counts, ACTIONS + a);
-    let inserted = count_at(counts, ACTIONS + ACTIONS + a);
+    let inserted = count_at(counts, 2 * ACTIONS + a);
     if accepted + suppressed + inserted == 0 {
-        return at;
+        at
+    } else {
+        say_action(out, at, a, accepted, suppressed, inserted)
     }
-    say_action(out, at, a, accepted, suppressed, inserted)
 }
 
 fn action_lines(out: &mut [u8], at: usize, counts: &[u32]) -> usize
     ensures { Added out.old at (action_lines action_table 0 counts.now) out.new result }
 {
     let mut end = at;
-    let mut a = 0;
-    while a < ACTIONS {
+    for a in 0..ACTIONS {
         end = action_line(out, end, counts, a);
-        a += 1;
     }
     end
 }
@@ -155,6 +112,6 @@ pub fn print_tally(
     ensures { Added out.old at
         (tally_text nodes.now steps.entry.now (record { steps = ran.now; actions = met.now })) out.new result }
 {
-    let end = record_lines(out, at, nodes, steps, ran);
-    action_lines(out, end, met)
+    let told = record_lines(out, at, nodes, steps, &Ran { counts: ran });
+    action_lines(out, told.end, met)
 }

@@ -1,3 +1,4 @@
+pub mod MarkLaws
 pub mod ScanLaws
 pub mod NumberLaws
 pub mod TakenLaws

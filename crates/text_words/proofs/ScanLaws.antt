@@ -5,37 +5,16 @@ use native.Mathlib.Omega.{arith}
 use mathlib.Core.Path.{◌≡◌, refl, sym, ap, ◌∙◌, subst}
 use mathlib.Core.Bool.{Bool, true, false}
 use mathlib.Core.List.{[], ◌∷◌, ◌++◌}
-use borrow.Author.Tests.{lt-ltb, le-ltb, ltb-true, ltb-false, ne_eqb}
+use borrow.Author.Tests.{ltb-true, ltb-false}
 use lib.Arith.{lt_of_le-ne}
 use lib.Dec.{ltb}
 use lib.ListN.{length, get_or, take, drop, drop_of_length-le}
 use lib.Seq.{slice, slice_empty, length-slice, drop-cons, take-nil, take-suc, length-take-le, drop-append-le}
 use Rattle.spec_policy.specs.Bytes.{Bytes}
 use Rattle.spec_text.specs.Words.{Mark, blank, brace, hash, letter, mark, ended, words_from, words}
-use Rattle.text_words.specs.Scanned.{mark_number, Skipped, Lettered, word_and, Next}
-
--- ---- marks by number
-
-mark_at : ℕ → Mark
-mark_at n = get_or (blank ∷ brace ∷ hash ∷ letter ∷ []) n blank
-
-numbered : (m : Mark) → mark_at (mark_number m) ≡ m
-unfolding mark_at mark_number
-numbered blank = refl
-numbered brace = refl
-numbered hash = refl
-numbered letter = refl
-
-pub mark-is : (m n : Mark) → mark_number m ≡ mark_number n → m ≡ n
-mark-is m n e = sym (numbered m) ∙ ap mark_at e ∙ numbered n
-
-pub mark-letter : (b : ℕ) → (b ≡ 9 → ⊥) → (b ≡ 13 → ⊥) → (b ≡ 32 → ⊥) → (b ≡ 123 → ⊥) → (b ≡ 125 → ⊥) → (b ≡ 35 → ⊥) → 3 ≡ mark_number (mark b)
-unfolding mark mark_number
-mark-letter b p q r s t u = rw (mark, ne_eqb b 32 r, ne_eqb b 9 p, ne_eqb b 13 q, ne_eqb b 123 s, ne_eqb b 125 t, ne_eqb b 35 u)
-
--- a byte that was told
-pub mark_of : {b k : ℕ} → b ≡ k → mark_number (mark k) ≡ mark_number (mark b)
-mark_of e = ap (λ (x : ℕ). mark_number (mark x)) (sym e)
+use Rattle.text_words.specs.Scanned.{Run, word_and}
+use Rattle.text_words.specs.declared.Word.{Word}
+use Rattle.std.specs.Prelude.{Some}
 
 -- a part cut out from the front, and from the back
 pub part_slice : (l : Bytes) (a e : ℕ) → a ≤ e → slice a e l ≡ take (e - a) (drop a l)
@@ -62,13 +41,6 @@ closed-last : (w : Bytes) → 1 ≤ length w → words_from w [] ≡ w ∷ words
 unfolding words_from ended
 closed-last [] h = absurd (omega arith)
 closed-last (x ∷ xs) h = refl
-
-letter-left : (m : Mark) → (m ≡ blank → ⊥) → (mark_number m ≡ 2 → ⊥) → (mark_number m ≡ 1 → ⊥) → m ≡ letter
-unfolding mark_number
-letter-left blank p q r = absurd (p refl)
-letter-left brace p q r = absurd (r refl)
-letter-left hash p q r = absurd (q refl)
-letter-left letter p q r = refl
 
 -- ---- places
 
@@ -98,33 +70,23 @@ module _ (line : Bytes) where
   unfolding words_from
   letter-on w i h e = ap (words_from w) (from-here i h) ∙ rw (e, words_from)
 
-  -- ---- the loops
+  -- ---- runs
 
-  pub skipped-more : (at i : ℕ) → i < length line → words (drop at line) ≡ words (drop i line) → mark_number (mark (get_or line i 0)) ≡ 0
-      → words (drop at line) ≡ words (drop (i + 1) line)
-  unfolding mark_number
-  skipped-more at i h s e = s ∙ blank-on i h (mark-is (mark (get_or line i 0)) blank e)
+  pub past-blanks : (n at end : ℕ) → at + n ≡ end → end ≤ length line → ((k : ℕ) → k < end → at ≤ k → mark (get_or line k 0) ≡ blank)
+      → words (drop at line) ≡ words (drop end line)
+  past-blanks zero at end e h b = let z : at ≡ end = omega arith in ap (λ (i : ℕ). words (drop i line)) z
+  past-blanks (suc n) at end e h b =
+      blank-on at (omega arith) (b at (omega arith) (omega arith)) ∙ past-blanks n (at + 1) end (omega arith) h (λ k p q. b k p (omega arith))
 
-  pub lettered-none : (at : ℕ) → words (drop at line) ≡ words_from (slice at at line) (drop at line)
-  unfolding words
-  lettered-none at = ap (λ (w : Bytes). words_from w (drop at line)) (sym (slice_empty at line))
-
-  pub lettered-more : (at i : ℕ) → at ≤ i → i < length line → words (drop at line) ≡ words_from (slice at i line) (drop i line) → mark_number (mark (get_or line i 0)) ≡ 3
-      → words (drop at line) ≡ words_from (slice at (i + 1) line) (drop (i + 1) line)
-  unfolding mark_number
-  lettered-more at i l h s e =
-      s ∙ letter-on (slice at i line) i h (mark-is (mark (get_or line i 0)) letter e)
-      ∙ ap (λ (w : Bytes). words_from w (drop (i + 1) line)) (sym (slice-more at i l h))
+  pub past-letters : (n at i end : ℕ) → i + n ≡ end → at ≤ i → end ≤ length line → ((k : ℕ) → k < end → at ≤ k → mark (get_or line k 0) ≡ letter)
+      → words_from (slice at i line) (drop i line) ≡ words_from (slice at end line) (drop end line)
+  past-letters zero at i end e l h b = let z : i ≡ end = omega arith in ap (λ (k : ℕ). words_from (slice at k line) (drop k line)) z
+  past-letters (suc n) at i end e l h b =
+      letter-on (slice at i line) i (omega arith) (b i (omega arith) l)
+      ∙ ap (λ (w : Bytes). words_from w (drop (i + 1) line)) (sym (slice-more at i l (omega arith)))
+      ∙ past-letters n at (i + 1) end (omega arith) (omega arith) h b
 
   -- ---- the next word
-
-  pub word_at : (start end : ℕ) → start < end → word_and line start end ≡ slice start end line ∷ words (drop end line)
-  unfolding word_and
-  word_at start end h = rw (lt-ltb start end h, word_and)
-
-  pub no_word : (start : ℕ) → word_and line start start ≡ []
-  unfolding word_and
-  no_word start = rw (le-ltb start start (omega arith), word_and)
 
   -- a word that no letter goes on
   word-closed : (w : Bytes) (i : ℕ) → 1 ≤ length w → (i < length line → mark (get_or line i 0) ≡ letter → ⊥) → words_from w (drop i line) ≡ w ∷ words (drop i line)
@@ -137,39 +99,39 @@ module _ (line : Bytes) where
           subst (λ (bs : Bytes). words_from w bs ≡ w ∷ words_from [] bs) (sym (from-here i l)) (closed w (get_or line i 0) (drop (i + 1) line) h (n l))
       go false e = rw (drop_of_length-le line {i = i} (ltb-false i (length line) e)) (closed-last w h)
 
-  module _ (at start : ℕ) (s : Skipped line at start) where
-    pub next-none : length line ≤ start → Next line at start start
+  module _ (at start : ℕ) (s : Run line blank at start) where
+    same : words (drop at line) ≡ words (drop start line)
+    same = past-blanks (start - at) at start (omega (arith, s.after)) s.inside s.each
+
+    pub next-none : length line ≤ start → words (drop at line) ≡ []
     unfolding words ended
-    next-none h = record { after = s.after; ordered = omega arith; inside = s.inside; is = s.same ∙ word_none [] start h ∙ sym (no_word start) }
+    next-none h = same ∙ word_none [] start h
 
-    pub next-remark : start < length line → mark_number (mark (get_or line start 0)) ≡ 2 → Next line at start start
-    unfolding words words_from ended mark_number
-    next-remark h e =
-        let m : mark (get_or line start 0) ≡ hash = mark-is (mark (get_or line start 0)) hash e in
-        record { after = s.after; ordered = omega arith; inside = s.inside; is = s.same ∙ ap words (from-here start h) ∙ rw (m, words_from) (sym (no_word start)) }
+    module _ (l : start < length line) where
+      pub next-remark : mark (get_or line start 0) ≡ hash → words (drop at line) ≡ []
+      unfolding words words_from ended
+      next-remark e = same ∙ ap words (from-here start l) ∙ rw (e, words_from)
 
-    pub next-brace : start < length line → mark_number (mark (get_or line start 0)) ≡ 1 → Next line at start (start + 1)
-    unfolding words words_from ended mark_number
-    next-brace h e =
-        let m : mark (get_or line start 0) ≡ brace = mark-is (mark (get_or line start 0)) brace e in
-        record {
-          after = s.after;
-          ordered = omega arith;
-          inside = omega arith;
-          is = s.same ∙ ap words (from-here start h)
-              ∙ rw (m, words_from) (sym (word_at start (start + 1) (omega arith) ∙ ap (λ (l : Bytes). l ∷ words (drop (start + 1) line)) (slice-one start h)));
-        }
+      pub next-brace : mark (get_or line start 0) ≡ brace → words (drop at line) ≡ slice start (start + 1) line ∷ words (drop (start + 1) line)
+      unfolding words words_from ended
+      next-brace e =
+          same ∙ ap words (from-here start l)
+          ∙ rw (e, words_from) (ap (λ (w : Bytes). w ∷ words (drop (start + 1) line)) (sym (slice-one start l)))
 
-    pub next-letters : start < length line → (mark_number (mark (get_or line start 0)) ≡ 2 → ⊥) → (mark_number (mark (get_or line start 0)) ≡ 1 → ⊥) → (end : ℕ)
-        → Lettered line start end → Next line at start end
-    next-letters h p q end l =
-        let m : mark (get_or line start 0) ≡ letter = letter-left (mark (get_or line start 0)) (s.stops h) p q in
-        let some : start < end = lt_of_le-ne l.after (λ e. l.stops (omega arith) (subst (λ (i : ℕ). mark (get_or line i 0) ≡ letter) e m)) in
-        record {
-          after = s.after;
-          ordered = l.after;
-          inside = l.inside;
-          is = s.same ∙ l.same
-              ∙ word-closed (slice start end line) end (omega (arith, length-slice start end line l.inside)) l.stops
-              ∙ sym (word_at start end some);
-        }
+      module _ (m : mark (get_or line start 0) ≡ letter) (end : ℕ) (r : Run line letter start end) where
+        pub some-letter : start < end
+        some-letter = lt_of_le-ne r.after (λ e. r.stops (omega arith) (subst (λ (i : ℕ). mark (get_or line i 0) ≡ letter) e m))
+
+        pub next-letters : words (drop at line) ≡ slice start end line ∷ words (drop end line)
+        unfolding words
+        next-letters =
+            same
+            ∙ ap (λ (w : Bytes). words_from w (drop start line)) (sym (slice_empty start line))
+            ∙ past-letters (end - start) start start end (omega (arith, r.after)) (omega arith) r.inside r.each
+            ∙ word-closed (slice start end line) end (omega (arith, length-slice start end line r.inside, some-letter)) r.stops
+
+-- a word as it is cut out, and those after it
+pub word-first : (line : Bytes) (at : ℕ) (w : Word) → words (drop at line) ≡ word_and line (Some w) → w.start < w.end
+    → words (drop at line) ≡ take (w.end - w.start) (drop w.start line) ∷ words (drop w.end line)
+unfolding word_and
+word-first line at w e h = e ∙ ap (λ (x : Bytes). x ∷ words (drop w.end line)) (part_slice line w.start w.end (omega arith))

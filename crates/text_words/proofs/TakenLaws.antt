@@ -1,51 +1,31 @@
 -- Laws of what is taken from the front of a line's words.
 use Prim.Native.Nat.{ℕ, ◌+◌, ◌-◌, ◌*◌, ◌≤◌}
 use native.Mathlib.Omega.{arith}
-use mathlib.Core.Path.{◌≡◌, refl, sym, ap, ◌∙◌, subst}
-use mathlib.Core.Bool.{Bool, true, false, ◌&&◌, and-true}
+use mathlib.Core.Path.{◌≡◌, refl, sym, ap, ◌∙◌}
+use mathlib.Core.Bool.{Bool, true, false, ◌&&◌}
 use mathlib.Core.List.{List, [], ◌∷◌}
-use mathlib.Core.Option.{none, some}
-use lib.Arith.{lt_of_le-ne}
+use mathlib.Core.Option.{Option, none, some}
 use lib.Dec.{eqb, leb, leb→le}
-use lib.ListN.{length, get_or, drop, drop_of_length-le}
-use lib.Seq.{slice, length-slice}
+use lib.Pointwise.{pointwise}
 use Rattle.actions.specs.Sets.{ActionSet, EMPTY, single, union}
-use Rattle.actions.proofs.Tests.{no_of, and_right, of-yes}
+use Rattle.actions.proofs.Tests.{and_right, of-yes}
 use Rattle.spec_policy.specs.Bytes.{Bytes}
-use Rattle.spec_text.specs.Words.{ascii, same_bytes, words_from, words, ended}
+use Rattle.spec_text.specs.Words.{ascii, same_bytes}
 use Rattle.spec_text.specs.Numerals.{number_from, numeral}
-use Rattle.spec_text.specs.Forms.{actions}
-use Rattle.spec_text.specs.Reading.{took, untaken, members, taken}
-use Rattle.spec_text.proofs.WordLaws.{same-eq}
-use Rattle.text_words.specs.Scanned.{Next, word_and}
-use Rattle.text_words.proofs.ScanLaws.{slice-one, word_at, no_word}
+use Rattle.spec_text.specs.Forms.{number, actions}
+use Rattle.spec_text.specs.Reading.{took, untaken, took_if, members, taken}
 
--- ---- a word of one byte
+-- ---- words that are the same
 
-module _ (line : Bytes) (start end b : ℕ) (inside : end ≤ length line) where
-  pub not-one : (end - start ≡ 1 → ⊥) → false ≡ same_bytes (slice start end line) (b ∷ [])
-  not-one n =
-      sym (no_of (same_bytes (slice start end line) (b ∷ []))
-      (λ t. n (sym (length-slice start end line inside) ∙ ap length (same-eq (slice start end line) (b ∷ []) t))))
+pub same-pointwise : (a b : Bytes) → pointwise eqb a b ≡ same_bytes a b
+unfolding same_bytes
+same-pointwise [] [] = refl
+same-pointwise [] (y ∷ ys) = refl
+same-pointwise (x ∷ xs) [] = refl
+same-pointwise (x ∷ xs) (y ∷ ys) = ap (λ (b : Bool). eqb x y && b) (same-pointwise xs ys)
 
-  pub one_byte : end - start ≡ 1 → eqb (get_or line start 0) b ≡ same_bytes (slice start end line) (b ∷ [])
-  unfolding same_bytes
-  one_byte e =
-      let z : start + 1 ≡ end = omega arith in
-      sym (ap (λ (w : Bytes). same_bytes w (b ∷ [])) (ap (λ (k : ℕ). slice start k line) (sym z) ∙ slice-one line start (omega arith)) ∙ and-true (eqb (get_or line start 0) b))
-
--- ---- the words from a place on
-
-module _ (line : Bytes) (at start end : ℕ) (n : Next line at start end) where
-  pub no_words : start ≡ end → words (drop at line) ≡ []
-  no_words e = n.is ∙ subst (λ (k : ℕ). word_and line start k ≡ []) e (no_word line start)
-
-  pub first_word : (start ≡ end → ⊥) → words (drop at line) ≡ slice start end line ∷ words (drop end line)
-  first_word d = n.is ∙ word_at line start end (lt_of_le-ne n.ordered d)
-
-pub past_words : (line : Bytes) (i : ℕ) → length line ≤ i → words (drop i line) ≡ []
-unfolding words words_from ended
-past_words line i h = ap words (drop_of_length-le line {i = i} h)
+pub same_as : (w v : Bytes) {u : Bytes} {b : Bool} → b ≡ pointwise eqb w v → v ≡ u → same_bytes w u ≡ b
+same_as w v {u} e q = sym (e ∙ ap (pointwise eqb w) q ∙ same-pointwise w u)
 
 -- ---- a number is at most what it may be
 
@@ -64,6 +44,16 @@ number_bound most n (b ∷ bs) v h e = go (leb 48 b && leb b 57 && leb m most) r
 pub numeral-bound : (most : ℕ) (w : Bytes) (v : ℕ) → numeral most w ≡ some v → v ≤ most
 unfolding numeral
 numeral-bound most w v e = number_bound most 0 w v (omega arith) e
+
+-- ---- a number
+
+pub number_none : (most : ℕ) (us : List Bytes) → us ≡ [] → taken (number 0 most) us ≡ untaken
+unfolding taken
+number_none most us e = ap (taken (number 0 most)) e
+
+pub number-read : (most : ℕ) (us : List Bytes) (w : Bytes) (ws : List Bytes) {o : Option ℕ} → us ≡ w ∷ ws → o ≡ numeral most w → taken (number 0 most) us ≡ took_if o ws
+unfolding taken
+number-read most us w ws first e = ap (taken (number 0 most)) first ∙ ap (λ (x : Option ℕ). took_if x ws) (sym e)
 
 -- ---- the actions of a set, one word after another
 

@@ -1,68 +1,49 @@
 // A line of a policy's text: its words, and the numbers and sets that they are. A word is told by its places in the line.
 #![tactic(auto)]
 
-ghost use Rattle.std.specs.Prelude.{◌≡◌, ◌≤◌, [], ◌∷◌, length, drop};
-ghost use Rattle.std.proofs.Math.Seq.{slice};
+ghost use Rattle.std.specs.Prelude.{◌≡◌, ◌≤◌, ◌<◌, IfSome, length, drop};
 ghost use Rattle.actions.specs.Sets.{EMPTY};
 ghost use Rattle.spec_text.specs.Words.{mark, same_bytes, words};
 ghost use Rattle.spec_text.specs.Numerals.{numeral};
 ghost use Rattle.spec_text.specs.Forms.{number, actions};
 ghost use Rattle.spec_text.specs.Reading.{members, taken};
-ghost use Rattle.text_words.specs.Scanned.{mark_number, Skipped, Lettered, Next, value_of, Takes};
+ghost use Rattle.text_words.specs.Scanned.{mark_of, Run, word_and, value_of, taken_of};
 
-use actions::ActionSet;
+use actions::{ActionSet, LAST_ACTION};
 
-const BLANK: u8 = 0;
-
-const BRACE: u8 = 1;
-
-const HASH: u8 = 2;
-
-const LETTER: u8 = 3;
+// ---- words
 
 // What a byte is to a line.
-fn mark(b: u8) -> u8
-    ensures { result ≡ mark_number (mark b) }
+#[derive(Clone, Copy, PartialEq, Eq)]
+enum Mark {
+    Blank,
+    Brace,
+    Hash,
+    Letter,
+}
+
+fn byte_mark(b: u8) -> Mark
+    ensures { mark_of result ≡ mark b }
 {
     match b {
-        b'\t' => BLANK,
-        b'\r' => BLANK,
-        b' ' => BLANK,
-        b'{' => BRACE,
-        b'}' => BRACE,
-        b'#' => HASH,
-        _ => LETTER,
+        b'\t' | b'\r' | b' ' => Mark::Blank,
+        b'{' | b'}' => Mark::Brace,
+        b'#' => Mark::Hash,
+        _ => Mark::Letter,
     }
 }
 
-// The first place from `at` on that is no blank.
-fn skip(line: &[u8], at: usize) -> usize
+// Where the run of such bytes that begins at `at` ends.
+fn run_end(line: &[u8], at: usize, kind: Mark) -> usize
     requires { at ≤ length line.now }
-    ensures { Skipped line.now at result }
+    ensures { Run line.now (mark_of kind) at result }
 {
-    let mut i = at;
-    while i < line.len() {
-        if mark(line[i]) != BLANK {
+    for i in at..line.len() {
+        if byte_mark(line[i]) != kind {
             return i;
         }
-        i += 1;
     }
-    i
-}
-
-// The first place from `at` on that is no letter.
-fn word_end(line: &[u8], at: usize) -> usize
-    requires { at ≤ length line.now }
-    ensures { Lettered line.now at result }
-{
-    let mut i = at;
-    while i < line.len() {
-        if mark(line[i]) != LETTER {
-            return i;
-        }
-        i += 1;
-    }
-    i
+    line.len()
 }
 
 #[derive(Clone, Copy)]
@@ -71,143 +52,108 @@ pub struct Word {
     pub end: usize,
 }
 
-// The next word from `at` on. Where there is none, its end is its start.
-pub fn next_word(line: &[u8], at: usize) -> Word
+// The next word from `at` on, if there is one.
+pub fn next_word(line: &[u8], at: usize) -> Option<Word>
     requires { at ≤ length line.now }
-    ensures { Next line.now at result.start result.end }
+    ensures is { words (drop at line.now) ≡ word_and line.now result }
+    ensures inside { IfSome result (λ w. (at ≤ w.start) × (w.start < w.end) × (w.end ≤ length line.now)) }
 {
-    let start = skip(line, at);
+    let start = run_end(line, at, Mark::Blank);
     if start == line.len() {
-        return Word { start, end: start };
+        return None;
     }
-    let m = mark(line[start]);
-    if m == HASH {
-        return Word { start, end: start };
-    }
-    if m == BRACE {
-        return Word {
+    match byte_mark(line[start]) {
+        Mark::Brace => Some(Word {
             start,
             end: start + 1,
-        };
+        }),
+        Mark::Letter => Some(Word {
+            start,
+            end: run_end(line, start, Mark::Letter),
+        }),
+        // No blank stands here.
+        Mark::Hash | Mark::Blank => None,
     }
-    Word {
-        start,
-        end: word_end(line, start),
-    }
 }
 
-#[derive(Clone, Copy)]
-pub enum Value {
-    Number(u64),
-    Nothing,
-}
+// ---- what they are
 
-fn wide(x: u8) -> u64
-    ensures { result ≡ x }
-{
-    x as u64
-}
-
-// The number that the bytes from `start` to `end` are, if it is at most `most`.
-pub fn numeral(line: &[u8], start: usize, end: usize, most: u64) -> Value
-    requires { (start ≤ end) × (end ≤ length line.now) × (most ≤ 4294967295) }
-    ensures { value_of result ≡ numeral most (slice start end line.now) }
+// The number that a word is, if it is at most `most`.
+pub fn numeral(word: &[u8], most: u64) -> Option<u64>
+    requires { most ≤ 4294967295 }
+    ensures { value_of result ≡ numeral most word.now }
 {
     let mut n: u64 = 0;
-    let mut i = start;
-    while i < end {
-        let b = line[i];
-        if b < b'0' {
-            return Value::Nothing;
+    for b in word {
+        if !b.is_ascii_digit() {
+            return None;
         }
-        if b > b'9' {
-            return Value::Nothing;
-        }
-        n = n * 10 + wide(b - b'0');
+        n = n * 10 + u64::from(*b - b'0');
         if n > most {
-            return Value::Nothing;
+            return None;
         }
-        i += 1;
     }
-    Value::Number(n)
+    Some(n)
 }
 
 // ---- what stands after a line's first word
 
 // A value, and where its words end.
 #[derive(Clone, Copy)]
-pub enum Taken {
-    Took(u64, usize),
-    Nothing,
-}
-
-// The word is this one byte.
-fn is_byte(line: &[u8], start: usize, end: usize, b: u8) -> bool
-    requires { (start ≤ end) × (end ≤ length line.now) }
-    ensures { result ≡ same_bytes (slice start end line.now) (b ∷ []) }
-{
-    if end - start != 1 {
-        return false;
-    }
-    line[start] == b
+pub struct Taken {
+    pub value: u64,
+    pub end: usize,
 }
 
 // A number.
-pub fn number(line: &[u8], at: usize, most: u64) -> Taken
+pub fn number(line: &[u8], at: usize, most: u64) -> Option<Taken>
     requires { (at ≤ length line.now) × (most ≤ 4294967295) }
-    ensures { Takes line.now result (taken (number 0 most) (words (drop at line.now))) }
+    ensures is { taken_of line.now result ≡ taken (number 0 most) (words (drop at line.now)) }
+    ensures inside { IfSome result (λ t. t.end ≤ length line.now) }
 {
-    let w = next_word(line, at);
-    let start = w.start;
-    let end = w.end;
-    if start == end {
-        return Taken::Nothing;
-    }
-    let Value::Number(n) = numeral(line, start, end, most) else {
-        return Taken::Nothing;
-    };
-    Taken::Took(n, end)
+    let word = next_word(line, at)?;
+    let value = numeral(&line[word.start..word.end], most)?;
+    Some(Taken {
+        value,
+        end: word.end,
+    })
 }
 
+const MOST_ACTION: u64 = LAST_ACTION as u64;
+
 // The actions listed from `at` on up to the closing brace.
-fn members(line: &[u8], at: usize) -> Taken
+fn members(line: &[u8], at: usize) -> Option<Taken>
     requires { at ≤ length line.now }
-    ensures { Takes line.now result (members EMPTY (words (drop at line.now))) }
+    ensures is { taken_of line.now result ≡ members EMPTY (words (drop at line.now)) }
+    ensures inside { IfSome result (λ t. t.end ≤ length line.now) }
 {
     let mut set = ActionSet::EMPTY;
     let mut i = at;
-    while i < line.len() {
-        let w = next_word(line, i);
-        let start = w.start;
-        let end = w.end;
-        if start == end {
-            return Taken::Nothing;
+    while let Some(word) = next_word(line, i) {
+        let spelt = &line[word.start..word.end];
+        if spelt == b"}".as_slice() {
+            return Some(Taken {
+                value: set.bits,
+                end: word.end,
+            });
         }
-        if is_byte(line, start, end, b'}') {
-            return Taken::Took(set.bits, end);
-        }
-        let Value::Number(a) = numeral(line, start, end, 63) else {
-            return Taken::Nothing;
-        };
-        set = set.union(ActionSet::single(a as u8));
-        i = end;
+        let action = numeral(spelt, MOST_ACTION)?;
+        set = set.union(ActionSet::single(action as u8));
+        i = word.end;
     }
-    Taken::Nothing
+    None
 }
 
 // A set.
-pub fn set(line: &[u8], at: usize) -> Taken
+pub fn set(line: &[u8], at: usize) -> Option<Taken>
     requires { at ≤ length line.now }
-    ensures { Takes line.now result (taken (actions 0) (words (drop at line.now))) }
+    ensures is { taken_of line.now result ≡ taken (actions 0) (words (drop at line.now)) }
+    ensures inside { IfSome result (λ t. t.end ≤ length line.now) }
 {
-    let w = next_word(line, at);
-    let start = w.start;
-    let end = w.end;
-    if start == end {
-        return Taken::Nothing;
+    let word = next_word(line, at)?;
+    if &line[word.start..word.end] == b"{".as_slice() {
+        members(line, word.end)
+    } else {
+        None
     }
-    if is_byte(line, start, end, b'{') {
-        return members(line, end);
-    }
-    Taken::Nothing
 }

@@ -1,48 +1,32 @@
 -- The tail of the event buffer, lent to a call and taken back.
 use mathlib.Core.Path.{◌≡◌, refl, sym, ◌∙◌, ap, subst}
-use Prim.Native.Nat.{ℕ, ◌+◌, ◌*◌, ◌-◌, ◌<◌, ◌≤◌}
-use mathlib.Core.Bool.{Bool, true, false, not}
+use Prim.Native.Nat.{ℕ, ◌*◌, ◌-◌, ◌<◌, ◌≤◌}
+use mathlib.Core.Bool.{true, false}
 use mathlib.Core.List.{List, [], ◌++◌, append-nil}
 use native.Mathlib.Omega.{arith}
-use lib.Dec.{T, ltb, leb}
+use lib.Dec.{T}
 use lib.ListN.{length, take, drop, length-drop, take-append-drop, drop_of_length-le}
 use borrow.Rule.Slice.PartMut.{put_mid}
-use borrow.Author.Tests.{lt-leb, le-leb, ltb-true, ltb-false}
-use Rattle.actions.specs.Sets.{is_action}
 use Rattle.actions.proofs.Tests.{true-not-false}
 use Rattle.spec_policy.specs.Bytes.{Bytes}
 use Rattle.spec_policy.specs.Spots as spots
 use Rattle.spec_policy.specs.Tree.{regulated, tree}
 use Rattle.spec_check.proofs.Passed.{passed, passed-sets}
-use Rattle.spec_turns.specs.Entries.{Result, refusal, carried, carried_out, broken13}
+use Rattle.spec_turns.specs.Entries.{Result, refusal, carried, carried_out}
 use Rattle.spec_trace.specs.Tallies.{steps_tallied, actions_tallied}
 use Rattle.spec_trace.specs.Traces.{called, ran_by}
 use Rattle.spec_trace.proofs.Called.{Clear, clear-open, clear-offer, clear-close, called-short, called-goes, called-thirteen}
 use Rattle.faults.specs.declared.Fault.{Fault}
 use Rattle.faults.specs.Meaning.{fault_of, fault_value}
 use Rattle.faults.proofs.Once.{same-fault}
-use Rattle.call_answer.specs.declared.Answer.{Answer}
-use Rattle.call_answer.specs.declared.Answer.TheVariants.{Refused}
+use Rattle.std.specs.Prelude.{Err}
 use Rattle.call_answer.specs.declared.Call.{Call}
 use Rattle.call_answer.specs.declared.Call.TheVariants.{Open, Offer, Close}
 use Rattle.call_answer.specs.Requests.{asked}
-use Rattle.call_answer.specs.Replies.{spoken, Gave}
+use Rattle.call_answer.specs.Replies.{Answer, spoken, Gave}
 use Rattle.call_carry.specs.Calls.{readable, Allowed}
-use Rattle.trace_call.proofs.CarryLaws.{not-refused, refused-not, root-answered}
+use Rattle.trace_call.proofs.CarryLaws.{not-refused, root-answered}
 use Rattle.trace_call.specs.Tails.{no_action, after_halt, Callable, if_answered, Tailed}
-
--- ---- an action's number
-
-pub by_number : (a : ℕ) → ltb 63 a ≡ broken13 a
-unfolding broken13 is_action
-by_number a = go (ltb 63 a) refl
-  where
-    go : (b : Bool) → ltb 63 a ≡ b → ltb 63 a ≡ not (leb a 63)
-    go true e = e ∙ sym (ap not (lt-leb a 63 (ltb-true 63 a e)))
-    go false e = e ∙ sym (ap not (le-leb a 63 (ltb-false 63 a e)))
-
-pub action-as : {x y : Call} {v : Bool} → x ≡ y → v ≡ no_action y → v ≡ no_action x
-action-as e f = f ∙ ap no_action (sym e)
 
 -- ---- the tail is lent to its end, and comes back
 
@@ -85,22 +69,23 @@ module _ {policy : Bytes} {set : ℕ} {state events : Bytes} {written : ℕ} {ca
 
   module _ {steps actions : List ℕ} where
     refused_as : (n : ℕ) {f : Fault} → fault_of f ≡ spots.bare_fault n → called policy (asked call) state (drop (2 * written) events) ≡ refusal (spots.bare_fault n) state (drop (2 * written) events)
-        → Tailed policy (asked call) state events written steps actions (Refused f) state events steps actions
+        → Tailed policy (asked call) state events written steps actions (Err f) state events steps actions
     unfolding refusal spoken if_answered
     refused_as n {f} t e =
+        let refused : Fault → Answer = λ g. Err g in
         let given : Result = refusal (spots.bare_fault n) state (drop (2 * written) events) in
         record {
-          answer = ap Refused (sym (same-fault f) ∙ ap fault_value t) ∙ ap (λ (x : Result). spoken x.reply) (sym e);
+          answer = ap refused (sym (same-fault f) ∙ ap fault_value t) ∙ ap (λ (x : Result). spoken x.reply) (sym e);
           state-is = ap (λ (x : Result). x.state) (sym e);
           events-are = sym (take-append-drop (2 * written) events) ∙ ap (λ (x : Result). take (2 * written) events ++ x.events) (sym e);
           steps-are = ap (λ (x : Result). if_answered x.reply (steps_tallied policy (ran_by policy (asked call) state) steps) steps) (sym e);
           actions-are = ap (λ (x : Result). if_answered x.reply (actions_tallied (ran_by policy (asked call) state) actions) actions) (sym e);
           kept = λ z. (refl, (refl, (refl, refl)));
-          wide = λ z. absurd (refused-not z);
-          root_is = λ z. absurd (refused-not z);
+          wide = λ z. absurd (cc z);
+          root_is = λ z. absurd (cc z);
         }
 
-    pub tail-thirteen : {f : Fault} → fault_of f ≡ spots.bare_fault 13 → no_action call ≡ true → Tailed policy (asked call) state events written steps actions (Refused f) state events steps actions
+    pub tail-thirteen : {f : Fault} → fault_of f ≡ spots.bare_fault 13 → no_action call ≡ true → Tailed policy (asked call) state events written steps actions (Err f) state events steps actions
     unfolding readable no_action asked
     tail-thirteen t n = refused_as 13 t (on call h.reads n)
       where
@@ -110,7 +95,7 @@ module _ {policy : Bytes} {set : ℕ} {state events : Bytes} {written : ℕ} {ca
         on Close r n = true-not-false n refl
 
     pub tail-short : {f : Fault} → fault_of f ≡ spots.bare_fault 15 → no_action call ≡ false → length events - 2 * written < 512
-        → Tailed policy (asked call) state events written steps actions (Refused f) state events steps actions
+        → Tailed policy (asked call) state events written steps actions (Err f) state events steps actions
     tail-short t n l = refused_as 15 t (called-short policy h.passes-check (asked call) state (drop (2 * written) events) (clear n) (omega (arith, length-drop (2 * written) events, l)))
 
     -- what the call gave on the tail is what the run has there

@@ -1,5 +1,5 @@
 -- A call of the run on the part of the event buffer that begins where the last call's events ended: what it asks, and what it gives.
-use Rattle.std.specs.Prelude.{ℕ, ◌*◌, ◌≤◌, ◌≡◌, Bool, false, List, ◌++◌, T, length, take, drop}
+use Rattle.std.specs.Prelude.{ℕ, ◌*◌, ◌≤◌, ◌≡◌, Bool, false, List, ◌++◌, T, length, take, drop, Ok, Err}
 use Rattle.spec_policy.specs.Bytes.{Bytes}
 use Rattle.spec_check.specs.Check.{passes, check}
 use Rattle.spec_policy.specs.Tree.{tree}
@@ -13,11 +13,10 @@ use Rattle.spec_turns.specs.Entries.{event_room, Reply, answers, refuses, broken
 use Rattle.spec_trace.specs.Tallies.{steps_tallied, actions_tallied}
 use Rattle.spec_trace.specs.Traces.{called, ran_by, event_size}
 use Rattle.faults.specs.declared.Fault.{Fault}
-use Rattle.call_answer.specs.declared.Answer.{Answer}
-use Rattle.call_answer.specs.declared.Answer.TheVariants.{Answered, Refused}
+use Rattle.call_answer.specs.declared.Answered.{Answered}
 use Rattle.call_answer.specs.declared.Call.{Call}
 use Rattle.call_answer.specs.declared.Call.TheVariants.{Open, Offer, Close}
-use Rattle.call_answer.specs.Replies.{spoken}
+use Rattle.call_answer.specs.Replies.{Answer, spoken}
 use Rattle.call_carry.specs.Calls.{readable}
 
 -- refusals 13 and 14, which only an offered action has
@@ -52,6 +51,6 @@ pub record Tailed (policy : Bytes) (q : Request) (state events : Bytes) (written
   pub steps-are : steps' ≡ if_answered (called policy q state (drop (event_size * written) events)).reply (steps_tallied policy (ran_by policy q state) steps) steps
   pub actions-are : actions' ≡ if_answered (called policy q state (drop (event_size * written) events)).reply (actions_tallied (ran_by policy q state) actions) actions
   -- "A refusal returns that number ..; state and event buffers keep every byte", and the tally its counts; an answered call had room
-  pub kept : {f : Fault} → r ≡ Refused f → (state' ≡ state) × ((events' ≡ events) × ((steps' ≡ steps) × (actions' ≡ actions)))
-  pub wide : {n s : ℕ} → r ≡ Answered n s → event_room ≤ length (drop (event_size * written) events)
-  pub root_is : {n s : ℕ} → r ≡ Answered n s → s ≡ status_number (status (outcome (Turn.call (tree policy) q (load (tree policy) (cells state)))).state)
+  pub kept : {f : Fault} → r ≡ Err f → (state' ≡ state) × ((events' ≡ events) × ((steps' ≡ steps) × (actions' ≡ actions)))
+  pub wide : {a : Answered} → r ≡ Ok a → event_room ≤ length (drop (event_size * written) events)
+  pub root_is : {a : Answered} → r ≡ Ok a → a.status ≡ status_number (status (outcome (Turn.call (tree policy) q (load (tree policy) (cells state)))).state)

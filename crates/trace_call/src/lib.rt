@@ -14,12 +14,13 @@ ghost use Rattle.trace_call.specs.Tails.{no_action, Callable, Tailed};
 use actions::{ActionSet, LAST_ACTION};
 use call_answer::{Answer, Call};
 use call_carry::{carry_action_counting, carry_out_counting};
-use faults::bare_fault;
+use faults::Refusal;
 use trace_events::{ACTION_COUNTS, count_events};
 use turn_tally::STEP_COUNTS;
 use turn_told::EVENT_ROOM;
 
 // A call that no rule refuses, its steps counted.
+#[tactic(auto, unfolding(call_answer::specs::Requests::asked, call_carry::specs::Calls::asks_root, spec_trace::specs::Tallies::steps_if))]
 fn carry_steps(
     policy: &[u8],
     set: ActionSet,
@@ -34,6 +35,7 @@ fn carry_steps(
     ensures steps_after { steps.new ≡ steps_tallied policy.now
         (ran_by policy.now (asked call) state.old) steps.old }
 {
+    // Opening and closing are named apart, so that a compiler takes into each only its own way: together they cost a run 900 bytes of stack.
     match call {
         Call::Open => carry_out_counting(policy, state, events, Call::Open, steps, true),
         Call::Offer(a) => carry_action_counting(policy, set, state, events, a, steps, true),
@@ -58,23 +60,17 @@ fn carry(
         (ran_by policy.now (asked call) state.old) steps.old }
     ensures actions_after { actions.new ≡ actions_tallied (ran_by policy.now (asked call) state.old) actions.old }
 {
-    let r = carry_steps(policy, set, state, events, call, steps);
-    let Answer::Answered(n, _) = r else {
-        return r;
-    };
-    count_events(actions, events, n);
-    r
+    let answered = carry_steps(policy, set, state, events, call, steps)?;
+    count_events(actions, events, answered.events);
+    Ok(answered)
 }
 
 // 13: "action above 63"
+#[tactic(auto, unfolding(crate::specs::Tails::no_action, spec_turns::specs::Entries::broken13, actions::specs::Sets::is_action))]
 fn no_action(call: Call) -> bool
     ensures { result ≡ no_action call }
 {
-    match call {
-        Call::Open => false,
-        Call::Offer(a) => a > LAST_ACTION,
-        Call::Close => false,
-    }
+    matches!(call, Call::Offer(a) if a > LAST_ACTION)
 }
 
 // A call of the run, after so many events: on the tail of the buffer, "the part that begins where the last ended". The file and the state are not in question.
@@ -93,11 +89,11 @@ pub fn on_tail(
         result state.new events.new steps.new actions.new }
 {
     if no_action(call) {
-        return Answer::Refused(bare_fault(13));
+        return Err(Refusal::Action.bare());
     }
     let at = 2 * written;
     if events.len() - at < EVENT_ROOM {
-        return Answer::Refused(bare_fault(15));
+        return Err(Refusal::Room.bare());
     }
     carry(policy, set, state, &mut events[at..], call, steps, actions)
 }

@@ -33,14 +33,14 @@ module _ (k : ℕ) where
   unfolding table_place
   table-else e f g = rw (ne_eqb k 1 e, ne_eqb k 2 f, ne_eqb k 3 g, table_place) refl
 
-pub event-in : (k a : ℕ) (xs : List ℕ) (x : ℕ) {i : ℕ} → i ≡ table_place k + a → i < action_counts → x ≡ more (get_or xs i 0) → set xs i x ≡ event_counted k a xs
+pub event-in : (k a : ℕ) (xs : List ℕ) (x i : ℕ) → i ≡ table_place k + a → i < action_counts → x ≡ more (get_or xs i 0) → set xs i x ≡ event_counted k a xs
 unfolding event_counted action_counted counted
-event-in k a xs x {i} e h f =
+event-in k a xs x i e h f =
     ap (set xs i) f ∙ ap (λ (t : Bool). elim t [ true ↦ counted xs i | false ↦ xs ]) (sym (lt-ltb i action_counts h)) ∙ ap (action_counted xs) e
 
-pub event-past : (k a : ℕ) (xs : List ℕ) {i : ℕ} → i ≡ table_place k + a → action_counts ≤ i → xs ≡ event_counted k a xs
+pub event-past : (k a : ℕ) (xs : List ℕ) (i : ℕ) → i ≡ table_place k + a → action_counts ≤ i → xs ≡ event_counted k a xs
 unfolding event_counted action_counted
-event-past k a xs {i} e h = ap (λ (t : Bool). elim t [ true ↦ counted xs i | false ↦ xs ]) (sym (le-ltb i action_counts h)) ∙ ap (action_counted xs) e
+event-past k a xs i e h = ap (λ (t : Bool). elim t [ true ↦ counted xs i | false ↦ xs ]) (sym (le-ltb i action_counts h)) ∙ ap (action_counted xs) e
 
 -- ---- so many
 
@@ -57,9 +57,6 @@ tally-next n i bs xs h =
 pub tally-over : (n i : ℕ) (bs : Bytes) (xs : List ℕ) → n ≤ i → bytes_tallied (n - i) bs (2 * i) xs ≡ xs
 unfolding bytes_tallied
 tally-over n i bs xs h = let f : n - i ≡ zero = omega (arith, h) in ap (λ (m : ℕ). bytes_tallied m bs (2 * i) xs) f
-
-pub tally-first : (n : ℕ) (bs : Bytes) (xs : List ℕ) → bytes_tallied (n - 0) bs (2 * 0) xs ≡ bytes_tallied n bs 0 xs
-tally-first n bs xs = let f : n - 0 ≡ n = omega arith in ap (λ (m : ℕ). bytes_tallied m bs (2 * 0) xs) f
 
 -- ---- events by their bytes
 

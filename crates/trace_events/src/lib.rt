@@ -1,7 +1,8 @@
 // What became of each action, counted by the bytes of a call's events.
 #![tactic(auto)]
 
-ghost use Rattle.std.specs.Prelude.{◌≡◌, ◌*◌, ◌≤◌, length};
+ghost use Rattle.std.specs.Prelude.{◌≡◌, ◌*◌, ◌≤◌, length, unwrap_or, IfSome};
+ghost use Rattle.spec_trace.specs.Tallies.{action_counts, inserted_place};
 ghost use Rattle.trace_events.specs.Counts.{table_place, event_counted, bytes_tallied};
 
 use turn_tally::one_more;
@@ -10,28 +11,26 @@ use turn_told::{EVENT_ACCEPTED, EVENT_INSERTED, EVENT_SUPPRESSED};
 // A count for each action accepted, suppressed and inserted.
 pub const ACTIONS: usize = 64;
 
-pub const ACTION_COUNTS: usize = 192;
+pub const ACTION_COUNTS: usize = 3 * ACTIONS;
 
-// Where the counts of a kind of event begin; past the last of them for what is no event.
-fn table_of(kind: u8) -> usize
-    ensures { (result ≡ table_place kind) × (result ≤ 192) }
+// Where the counts of a kind of event begin, if it is one.
+fn table_of(kind: u8) -> Option<usize>
+    ensures place { unwrap_or result action_counts ≡ table_place kind }
+    ensures small { IfSome result (λ table. table ≤ inserted_place 0) }
 {
-    if kind == EVENT_ACCEPTED {
-        return 0;
+    match kind {
+        EVENT_ACCEPTED => Some(0),
+        EVENT_SUPPRESSED => Some(ACTIONS),
+        EVENT_INSERTED => Some(2 * ACTIONS),
+        _ => None,
     }
-    if kind == EVENT_SUPPRESSED {
-        return ACTIONS;
-    }
-    if kind == EVENT_INSERTED {
-        return ACTIONS + ACTIONS;
-    }
-    ACTION_COUNTS
 }
 
 fn count_event(actions: &mut [u32; ACTION_COUNTS], kind: u8, action: u8)
     ensures { actions.new ≡ event_counted kind action actions.old }
 {
-    let place = table_of(kind) + action as usize;
+    let Some(table) = table_of(kind) else { return };
+    let place = table + usize::from(action);
     if place < ACTION_COUNTS {
         actions[place] = one_more(actions[place]);
     }
@@ -42,10 +41,7 @@ pub fn count_events(actions: &mut [u32; ACTION_COUNTS], events: &[u8], count: us
     requires { 2 * count ≤ length events.now }
     ensures { actions.new ≡ bytes_tallied count events.now 0 actions.old }
 {
-    let mut i = 0;
-    while i < count {
-        let at = 2 * i;
-        count_event(actions, events[at], events[at + 1]);
-        i += 1;
+    for i in 0..count {
+        count_event(actions, events[2 * i], events[2 * i + 1]);
     }
 }

@@ -14,13 +14,11 @@ use Rattle.spec_trace.specs.Traces as spec
 use Rattle.spec_trace.specs.Traces.{on_tail, place, went, stops, follow}
 use Rattle.spec_trace.proofs.Followed.{follow-refused, follow-halts, follow-goes}
 use Rattle.faults.specs.declared.Fault.{Fault}
-use Rattle.call_answer.specs.declared.Answer.{Answer}
-use Rattle.call_answer.specs.declared.Answer.TheVariants.{Answered, Refused}
-use Rattle.trace_run.specs.declared.Stop.TheVariants.{Unrefused, RefusedWith}
-use Rattle.trace_run.specs.declared.Report.{Report}
-use Rattle.trace_run.specs.declared.Report.TheVariants.{Followed}
+use Rattle.std.specs.Prelude.{None, Some, Ok, Err}
+use Rattle.call_answer.specs.declared.Answered.{Answered}
+use Rattle.call_answer.specs.Replies.{Answer}
 use Rattle.trace_call.specs.Tails.{Tailed}
-use Rattle.trace_run.specs.Reports.{Told, run_of, Running}
+use Rattle.trace_run.specs.Reports.{Report, Told, run_of, Running}
 use Rattle.trace_run.proofs.RunLaws.{refuses-with, answers_with, told-refused, told-ends, after_is, long_as, runs_on}
 
 -- one more action of a trace
@@ -62,26 +60,26 @@ module _ {policy : Bytes} {set : ℕ} {trace state₀ events₀ : Bytes} {count 
     here : follow policy (get_or trace i 0 ∷ drop (i + 1) trace) x ≡ follow policy trace x₀
     here = ap (λ (bs : Bytes). follow policy bs x) (sym (drop_at trace i l)) ∙ h.so_far
 
-    pub through-refused : {f : Fault} → r ≡ Refused f
-        → Told (follow policy trace (run_of state₀ events₀ count steps₀ actions₀ 0 root)) (Followed (RefusedWith f) i written status) state' events' steps' actions'
+    pub through-refused : {f : Fault} → r ≡ Err f
+        → Told (follow policy trace (run_of state₀ events₀ count steps₀ actions₀ 0 root)) (Ok (record { stop = Some f; judged = i; events = written; status = status })) state' events' steps' actions'
     unfolding on_tail place run_of
-    through-refused {f} e = subst (λ (y : spec.Traced). Told y (Followed (RefusedWith f) i written status) state' events' steps' actions')
+    through-refused {f} e = subst (λ (y : spec.Traced). Told y (Ok (record { stop = Some f; judged = i; events = written; status = status })) state' events' steps' actions')
         (sym (follow-refused policy x (get_or trace i 0) (drop (i + 1) trace) (refuses-with t e)) ∙ here) (told-refused t e h.running.a-status)
 
-    module _ {n s : ℕ} (e : r ≡ Answered n s) where
-      replies : (on_tail policy (offer (get_or trace i 0)) x).reply ≡ answers n (status_of s)
+    module _ {a : Answered} (e : r ≡ Ok a) where
+      replies : (on_tail policy (offer (get_or trace i 0)) x).reply ≡ answers a.events (status_of a.status)
       unfolding on_tail place run_of
       replies = answers_with t e
 
-      pub through-halts : is_halted (status_of s) ≡ true
-          → Told (follow policy trace (run_of state₀ events₀ count steps₀ actions₀ 0 root)) (Followed Unrefused (i + 1) (written + n) s) state' events' steps' actions'
+      pub through-halts : is_halted (status_of a.status) ≡ true
+          → Told (follow policy trace (run_of state₀ events₀ count steps₀ actions₀ 0 root)) (Ok (record { stop = None; judged = i + 1; events = written + a.events; status = a.status })) state' events' steps' actions'
       unfolding run_of
-      through-halts z = subst (λ (y : spec.Traced). Told y (Followed Unrefused (i + 1) (written + n) s) state' events' steps' actions')
-          (ap (λ (j : ℕ). stops spec.unrefused (went policy (offer (get_or trace i 0)) x (on_tail policy (offer (get_or trace i 0)) x) n (status_of s) j)) (add-one i)
+      through-halts z = subst (λ (y : spec.Traced). Told y (Ok (record { stop = None; judged = i + 1; events = written + a.events; status = a.status })) state' events' steps' actions')
+          (ap (λ (j : ℕ). stops spec.unrefused (went policy (offer (get_or trace i 0)) x (on_tail policy (offer (get_or trace i 0)) x) a.events (status_of a.status) j)) (add-one i)
           ∙ sym (follow-halts policy x (get_or trace i 0) (drop (i + 1) trace) replies z) ∙ here) (told-ends t e i status (i + 1))
 
-      pub through-on : Small policy → is_halted (status_of s) ≡ false
-          → Through policy set trace state₀ events₀ count root steps₀ actions₀ state' events' steps' actions' (written + n) s (i + 1)
+      pub through-on : Small policy → is_halted (status_of a.status) ≡ false
+          → Through policy set trace state₀ events₀ count root steps₀ actions₀ state' events' steps' actions' (written + a.events) a.status (i + 1)
       unfolding run_of
       through-on small z = record {
         so_far =
@@ -91,7 +89,7 @@ module _ {policy : Bytes} {set : ℕ} {trace state₀ events₀ : Bytes} {count 
         in-trace = omega (arith, l);
       }
         where
-          goes : follow policy (drop (i + 1) trace) (went policy (offer (get_or trace i 0)) x (on_tail policy (offer (get_or trace i 0)) x) n (status_of s) (i + 1)) ≡ follow policy trace x₀
+          goes : follow policy (drop (i + 1) trace) (went policy (offer (get_or trace i 0)) x (on_tail policy (offer (get_or trace i 0)) x) a.events (status_of a.status) (i + 1)) ≡ follow policy trace x₀
           goes =
-              ap (λ (j : ℕ). follow policy (drop (i + 1) trace) (went policy (offer (get_or trace i 0)) x (on_tail policy (offer (get_or trace i 0)) x) n (status_of s) j)) (add-one i)
+              ap (λ (j : ℕ). follow policy (drop (i + 1) trace) (went policy (offer (get_or trace i 0)) x (on_tail policy (offer (get_or trace i 0)) x) a.events (status_of a.status) j)) (add-one i)
               ∙ sym (follow-goes policy x (get_or trace i 0) (drop (i + 1) trace) replies z) ∙ here

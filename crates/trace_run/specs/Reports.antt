@@ -1,25 +1,27 @@
 -- What the code's report stands for, and what the run has while it goes on.
-use Rattle.std.specs.Prelude.{ℕ, ◌*◌, ◌≤◌, ◌≡◌, false, List, T, length}
+use Rattle.std.specs.Prelude.{ℕ, ◌*◌, ◌≤◌, ◌≡◌, false, List, T, length, Option, Some, None, Result, Ok, Err}
 use Rattle.spec_policy.specs.Bytes.{Bytes}
 use Rattle.spec_check.specs.Check.{passes, check}
 use Rattle.spec_turns.specs.Status.{status_number, status_of}
 use Rattle.spec_turns.specs.Saved.{state_size, fits}
 use Rattle.spec_turns.specs.Entries.{broken14}
 use Rattle.spec_trace.specs.Traces as spec
+use Rattle.faults.specs.declared.Fault.{Fault}
 use Rattle.faults.specs.Meaning.{fault_value}
-use Rattle.trace_run.specs.declared.Stop.{Stop}
-use Rattle.trace_run.specs.declared.Stop.TheVariants.{Unrefused, RefusedWith}
-use Rattle.trace_run.specs.declared.Report.{Report}
-use Rattle.trace_run.specs.declared.Report.TheVariants.{Unopened, Followed}
+use Rattle.trace_run.specs.declared.Followed.{Followed}
 
-unfoldable pub stop_value : spec.Stop → Stop
-stop_value spec.unrefused = Unrefused
-stop_value (spec.refused_with f) = RefusedWith (fault_value f)
+unfoldable pub stop_value : spec.Stop → Option Fault
+stop_value spec.unrefused = None
+stop_value (spec.refused_with f) = Some (fault_value f)
+
+-- the code's name for it
+abbrev pub Report : Type 0
+Report = Result Followed Fault
 
 unfoldable pub report_value : spec.Report → Report
 unfolding stop_value
-report_value (spec.unopened f) = Unopened (fault_value f)
-report_value (spec.followed z j n s) = Followed (stop_value z) j n (status_number s)
+report_value (spec.unopened f) = Err (fault_value f)
+report_value (spec.followed z j n s) = Ok (record { stop = stop_value z; judged = j; events = n; status = status_number s })
 
 -- The run gave just this: its report, every byte of the two lent buffers, and every count.
 pub record Told (x : spec.Traced) (r : Report) (state events : Bytes) (steps actions : List ℕ) : Type 0 where

@@ -1,32 +1,31 @@
 // A policy run over a trace: opening, the trace's actions and closing, their events one after another in one lent buffer, and a tally of steps and actions.
 #![tactic(auto)]
 
-ghost use Rattle.std.specs.Prelude.{[]};
+ghost use Rattle.std.specs.Prelude.{◌≡◌, [], None, Ok};
 ghost use Rattle.spec_trace.specs.Traces.{follow, traces};
 ghost use Rattle.trace_run.specs.Reports.{Told, Running, run_of};
 
 use actions::ActionSet;
-use call_answer::{Answer, Call};
-use check_policy::{Checked, check, refusal};
-use faults::{Fault, bare_fault};
+use call_answer::Call;
+use check_policy::check;
+use faults::{Fault, Refusal};
 use trace_call::on_tail;
 use trace_events::ACTION_COUNTS;
 use turn_state::{STATE_SIZE, is_halted};
 use turn_tally::STEP_COUNTS;
 
-// By a refusal, or by none, where the root halts or is closed.
+// How far a run has come, or how it ended: the refusal that stopped it, and none where the root halted or was closed; the actions judged, the events
+// written, the root's status.
 #[derive(Clone, Copy)]
-pub enum Stop {
-    Unrefused,
-    RefusedWith(Fault),
+pub struct Followed {
+    pub stop: Option<Fault>,
+    pub judged: usize,
+    pub events: usize,
+    pub status: u8,
 }
 
-// How the run ended, the actions judged, the events written, the root's status; or why it was not opened.
-#[derive(Clone, Copy)]
-pub enum Report {
-    Unopened(Fault),
-    Followed(Stop, usize, usize, u8),
-}
+// Or why it was not opened.
+pub type Report = Result<Followed, Fault>;
 
 // "and closing": after so many events and actions.
 fn close_run(
@@ -34,30 +33,35 @@ fn close_run(
     set: ActionSet,
     state: &mut [u8],
     events: &mut [u8],
-    written: usize,
-    judged: usize,
-    root: u8,
+    run: Followed,
     steps: &mut [u32; STEP_COUNTS],
     actions: &mut [u32; ACTION_COUNTS],
-) -> Report
-    requires { Running policy.now set.bits state.old events.old written root }
+) -> Followed
+    requires { Running policy.now set.bits state.old events.old run.events run.status }
     ensures { Told (follow policy.now []
-        (run_of state.old events.old written steps.old actions.old judged root))
-        result state.new events.new steps.new actions.new }
+        (run_of state.old events.old run.events steps.old actions.old run.judged run.status))
+        (Ok result) state.new events.new steps.new actions.new }
 {
-    let r = on_tail(
+    match on_tail(
         policy,
         set,
         state,
         events,
-        written,
+        run.events,
         Call::Close,
         steps,
         actions,
-    );
-    match r {
-        Answer::Answered(n, s) => Report::Followed(Stop::Unrefused, judged, written + n, s),
-        Answer::Refused(f) => Report::Followed(Stop::RefusedWith(f), judged, written, root),
+    ) {
+        Ok(answered) => Followed {
+            stop: None,
+            judged: run.judged,
+            events: run.events + answered.events,
+            status: answered.status,
+        },
+        Err(fault) => Followed {
+            stop: Some(fault),
+            ..run
+        },
     }
 }
 
@@ -68,48 +72,36 @@ fn go_through(
     trace: &[u8],
     state: &mut [u8],
     events: &mut [u8],
-    count: usize,
-    root: u8,
+    mut run: Followed,
     steps: &mut [u32; STEP_COUNTS],
     actions: &mut [u32; ACTION_COUNTS],
-) -> Report
-    requires { Running policy.now set.bits state.old events.old count root }
+) -> Followed
+    requires running { Running policy.now set.bits state.old events.old run.events run.status }
+    requires begun { (run.stop ≡ None) × (run.judged ≡ 0) }
     ensures { Told (follow policy.now trace.now
-        (run_of state.old events.old count steps.old actions.old 0 root))
-        result state.new events.new steps.new actions.new }
+        (run_of state.old events.old run.events steps.old actions.old 0 run.status))
+        (Ok result) state.new events.new steps.new actions.new }
 {
-    let mut written = count;
-    let mut status = root;
-    let mut i = 0;
-    while i < trace.len() {
-        let action = trace[i];
-        let r = on_tail(
-            policy,
-            set,
-            state,
-            events,
-            written,
-            Call::Offer(action),
-            steps,
-            actions,
-        );
-        match r {
-            Answer::Answered(n, s) => {
-                written += n;
-                status = s;
-                i += 1;
-                if is_halted(s) {
-                    return Report::Followed(Stop::Unrefused, i, written, s);
+    for action in trace {
+        let offer = Call::Offer(*action);
+        match on_tail(
+            policy, set, state, events, run.events, offer, steps, actions,
+        ) {
+            Ok(answered) => {
+                run.judged += 1;
+                run.events += answered.events;
+                run.status = answered.status;
+                if is_halted(run.status) {
+                    return run;
                 }
             }
-            Answer::Refused(f) => {
-                return Report::Followed(Stop::RefusedWith(f), i, written, status);
+            Err(fault) => {
+                run.stop = Some(fault);
+                return run;
             }
         }
     }
-    close_run(
-        policy, set, state, events, written, i, status, steps, actions,
-    )
+    close_run(policy, set, state, events, run, steps, actions)
 }
 
 // "Run opening, the trace's actions and closing": the whole run, on the counts of a tally. The file is checked once. What the state buffer held is not read.
@@ -125,21 +117,19 @@ pub fn follow_trace(
         (record { steps = steps.entry.now; actions = actions.old }))
         result state.new events.new steps.exit.now actions.new }
 {
-    let checked = check(policy);
-    let Checked::Passed(set, _) = checked else {
-        return Report::Unopened(refusal(checked));
-    };
+    let set = check(policy)?.regulated;
     if state.len() != STATE_SIZE {
-        return Report::Unopened(bare_fault(11));
+        return Err(Refusal::Buffers.bare());
     }
-    let r = on_tail(policy, set, state, events, 0, Call::Open, steps, actions);
-    match r {
-        Answer::Answered(n, s) => {
-            if is_halted(s) {
-                return Report::Followed(Stop::Unrefused, 0, n, s);
-            }
-            go_through(policy, set, trace, state, events, n, s, steps, actions)
-        }
-        Answer::Refused(f) => Report::Unopened(f),
+    let opened = on_tail(policy, set, state, events, 0, Call::Open, steps, actions)?;
+    let run = Followed {
+        stop: None,
+        judged: 0,
+        events: opened.events,
+        status: opened.status,
+    };
+    if is_halted(run.status) {
+        return Ok(run);
     }
+    Ok(go_through(policy, set, trace, state, events, run, steps, actions))
 }

@@ -12,19 +12,15 @@ use Rattle.spec_policy.specs.Spots as spots
 use Rattle.spec_check.specs.Check.{Answer as Checked, passes}
 use Rattle.spec_turns.specs.Turn.{Request, opening, offer, close}
 use Rattle.spec_turns.specs.Entries.{entry}
-use Rattle.call_answer.specs.Replies.{Gave}
-use Rattle.call_answer.specs.declared.Answer.{Answer}
-use Rattle.call_answer.specs.declared.Answer.TheVariants.{Refused}
+use Rattle.std.specs.Prelude.{Result, Ok, Err}
+use Rattle.call_answer.specs.Replies.{Answer, Gave}
 use Rattle.faults.specs.declared.Fault.{Fault}
 use Rattle.faults.specs.Meaning.{fault_of}
 use Rattle.spec_writer.specs.Writing as writing
 use Rattle.file_writer.specs.Replies as replies
-use Rattle.file_writer.specs.declared.Written.{Written}
-use Rattle.file_writer.specs.declared.Written.TheVariants as written
 use Rattle.trials.specs.Calls.{field_end, policy_end, state_end, events_end, longest, Placed, part, policy_in, state_in, events_in, request, called, file_called, Found, Taken, refusal_bytes, no_refusal, answer_bytes, reply_bytes, Answers, size_bytes, Wrote}
 use Rattle.trials.specs.declared.calls.Parts.{Parts}
-use Rattle.trials.specs.declared.calls.Call.{Call}
-use Rattle.trials.specs.declared.calls.Call.TheVariants.{Whole, Short}
+use Rattle.trials.specs.declared.calls.Short.{Short}
 
 pub policy-from : (bs : Bytes) → 3 ≤ policy_end bs
 unfolding field_end policy_end
@@ -52,14 +48,14 @@ unfolding events_end
 events-is bs e f p h = h ∙ ap (field_end bs) p
 
 -- the bytes asked for end at the call's end or before it
-pub short : (bs : Bytes) (have n : ℕ) → have < n → n ≤ events_end bs + 1 → n ≤ longest → Found bs have (Short n)
+pub short : (bs : Bytes) (have n : ℕ) → have < n → n ≤ events_end bs + 1 → n ≤ longest → Found bs have (Err (record { wanted = n }))
 unfolding Found
 short bs have n h e l = (h, e, l)
 
 pub whole : (bs : Bytes) (have : ℕ) (c : Parts) → events_end bs < have → have ≤ length bs
     → c.policy ≡ policy_end bs → c.state ≡ state_end bs → c.state ≤ c.policy + 65537 → c.events ≡ events_end bs → c.events ≤ c.state + 65537
     → c.entry ≡ number bs 0 1 → c.action ≡ number bs c.events 1
-    → Found bs have (Whole c)
+    → Found bs have (Ok c)
 unfolding Found
 whole bs have c h l p s u e v n a =
     let x = policy-from bs in
@@ -94,17 +90,9 @@ pub events-part : (bs : Bytes) (c : Parts) → Placed bs c → part (c.state + 2
 unfolding events_in
 events-part bs c p = ap₂ (λ (k l : ℕ). part (k + 2) l bs) p.state p.events
 
-pub taken-whole : (bs : Bytes) (have : ℕ) (r : Call) (c : Parts) → r ≡ Whole c → Found bs have r → Taken bs (Whole c)
-unfolding Found Taken
-taken-whole bs have r c e f = let g : Found bs have (Whole c) = subst (λ (x : Call). Found bs have x) e f in g.1
-
-pub taken-placed : (bs : Bytes) (r : Call) (c : Parts) → r ≡ Whole c → Taken bs r → Placed bs c
+pub taken-placed : (bs : Bytes) (r : Result Parts Short) (c : Parts) → r ≡ Ok c → Taken bs r → Placed bs c
 unfolding Taken
-taken-placed bs r c e t = let g : Taken bs (Whole c) = subst (λ (x : Call). Taken bs x) e t in g
-
-pub wanted : (bs : Bytes) (have : ℕ) (r : Call) (n : ℕ) → r ≡ Short n → Found bs have r → (have < n) × (n ≤ longest)
-unfolding Found
-wanted bs have r n e f = let g : Found bs have (Short n) = subst (λ (x : Call). Found bs have x) e f in (g.0, g.2)
+taken-placed bs r c e t = let g : Taken bs (Ok c) = subst (λ (x : Result Parts Short). Taken bs x) e t in g
 
 -- ---- the entry
 
@@ -152,7 +140,7 @@ made bs c s e s' e' x y reply m n a p ms sp mi ne ep ni g ls le rb =
     }
 
 -- a call of the writer on its own parts
-pub made-file : (bs : Bytes) (c : Parts) (o o' x reply : Bytes) (n : ℕ) (w : Written) → Placed bs c
+pub made-file : (bs : Bytes) (c : Parts) (o o' x reply : Bytes) (n : ℕ) (w : Result ℕ Fault) → Placed bs c
     → n ≡ c.events - (c.state + 2) → take n o ≡ part (c.state + 2) c.events bs → n ≤ length o
     → replies.Gave (writing.writes (part 3 c.policy bs) (part (c.policy + 2) c.state bs) (take n o)) w o' → length o' ≡ length (take n o)
     → reply ≡ size_bytes w
@@ -169,12 +157,12 @@ made-file bs c o o' x reply n w p e f h g l r =
 
 -- ---- a refusal's three bytes
 
-pub refused-reply : (f : Fault) (rs : Bytes) (a : Answer) → a ≡ Refused f → rs ≡ refusal_bytes (fault_of f)
+pub refused-reply : (f : Fault) (rs : Bytes) (a : Answer) → a ≡ Err f → rs ≡ refusal_bytes (fault_of f)
     → (get_or rs 0 0 ∷ get_or rs 1 0 ∷ get_or rs 2 0 ∷ 0 ∷ 0 ∷ 0 ∷ []) ≡ reply_bytes a
 unfolding reply_bytes refusal_bytes spell
 refused-reply f rs a e h = ap (λ (xs : Bytes). get_or xs 0 0 ∷ get_or xs 1 0 ∷ get_or xs 2 0 ∷ 0 ∷ 0 ∷ 0 ∷ []) h ∙ ap reply_bytes (sym e)
 
-pub refused-size : (f : Fault) (rs : Bytes) (a : Written) → a ≡ written.Refused f → rs ≡ refusal_bytes (fault_of f)
+pub refused-size : (f : Fault) (rs : Bytes) (a : Result ℕ Fault) → a ≡ Err f → rs ≡ refusal_bytes (fault_of f)
     → (get_or rs 0 0 ∷ get_or rs 1 0 ∷ get_or rs 2 0 ∷ 0 ∷ 0 ∷ []) ≡ size_bytes a
 unfolding size_bytes refusal_bytes spell
 refused-size f rs a e h = ap (λ (xs : Bytes). get_or xs 0 0 ∷ get_or xs 1 0 ∷ get_or xs 2 0 ∷ 0 ∷ 0 ∷ []) h ∙ ap size_bytes (sym e)

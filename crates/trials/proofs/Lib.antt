@@ -1,2 +1,3 @@
 pub mod CallLaws
 mod RunLaws
+pub mod SpellLaws

@@ -13,11 +13,9 @@ use Rattle.spec_trace.specs.Traces as runs
 use Rattle.faults.specs.declared.Fault.{Fault}
 use Rattle.faults.specs.Meaning.{fault_of, fault_value}
 use Rattle.faults.proofs.Once.{value-means}
-use Rattle.trace_run.specs.Reports.{stop_value, report_value, Told}
-use Rattle.trace_run.specs.declared.Stop.{Stop}
-use Rattle.trace_run.specs.declared.Stop.TheVariants.{Unrefused, RefusedWith}
-use Rattle.trace_run.specs.declared.Report.{Report}
-use Rattle.trace_run.specs.declared.Report.TheVariants.{Unopened, Followed}
+use Rattle.std.specs.Prelude.{None, Some, Ok, Err}
+use Rattle.trace_run.specs.Reports.{Report, stop_value, report_value, Told}
+use Rattle.trace_run.specs.declared.Followed.{Followed}
 use Rattle.run_input.specs.Ends.{policy_part}
 use Rattle.trials.specs.declared.calls.Parts.{Parts}
 use Rattle.trials.specs.Calls.{Placed, part, policy_in, state_in, refusal_bytes, no_refusal}
@@ -26,32 +24,34 @@ use Rattle.trials.proofs.CallLaws.{policy-part, state-part, events-part, front}
 
 -- ---- the report
 
-pub stop-none : (z : runs.Stop) → Unrefused ≡ stop_value z → no_refusal ≡ stop_fault z
+pub stop-none : (z : runs.Stop) → None ≡ stop_value z → no_refusal ≡ stop_fault z
 unfolding stop_value stop_fault
 stop-none runs.unrefused e = refl
 stop-none (runs.refused_with g) e = let z : ◌≡◌ {A = ℕ} 0 1 = cc in absurd (omega arith)
 
-pub stop-some : (f : Fault) (z : runs.Stop) → RefusedWith f ≡ stop_value z → fault_of f ≡ stop_fault z
+pub stop-some : (f : Fault) (z : runs.Stop) → Some f ≡ stop_value z → fault_of f ≡ stop_fault z
 unfolding stop_value stop_fault
 stop-some f runs.unrefused e = let z : ◌≡◌ {A = ℕ} 0 1 = cc in absurd (omega arith)
 stop-some f (runs.refused_with g) e = let a : fault_value g ≡ f = cc in value-means f g a
 
-pub unopened-bytes : (f : Fault) (bs : Bytes) (x : runs.Report) → Unopened f ≡ report_value x
+pub unopened-bytes : (f : Fault) (bs : Bytes) (x : runs.Report) → Err f ≡ report_value x
     → bs ≡ refusal_bytes (fault_of f) ++ (spell 4 0 ++ (spell 4 0 ++ (0 ∷ []))) → bs ≡ report_bytes x
 unfolding report_value report_bytes
 unopened-bytes f bs (runs.unopened g) e h =
     let a : fault_value g ≡ f = cc in h ∙ ap (λ (k : spots.Fault). refusal_bytes k ++ (spell 4 0 ++ (spell 4 0 ++ (0 ∷ [])))) (value-means f g a)
 unopened-bytes f bs (runs.followed z j n s) e h = let z : ◌≡◌ {A = ℕ} 0 1 = cc in absurd (omega arith)
 
-pub followed-bytes : (t : Stop) (j n k : ℕ) (f : Fault) (bs : Bytes) (x : runs.Report) → Followed t j n k ≡ report_value x
-    → ((z : runs.Stop) → t ≡ stop_value z → fault_of f ≡ stop_fault z) → bs ≡ refusal_bytes (fault_of f) ++ (spell 4 j ++ (spell 4 n ++ (k ∷ []))) → bs ≡ report_bytes x
+pub followed-bytes : (t : Followed) (f : Fault) (bs : Bytes) (x : runs.Report) → Ok t ≡ report_value x
+    → ((z : runs.Stop) → t.stop ≡ stop_value z → fault_of f ≡ stop_fault z)
+    → bs ≡ refusal_bytes (fault_of f) ++ (spell 4 t.judged ++ (spell 4 t.events ++ (t.status ∷ []))) → bs ≡ report_bytes x
 unfolding report_value report_bytes
-followed-bytes t j n k f bs (runs.unopened g) e s h = let z : ◌≡◌ {A = ℕ} 0 1 = cc in absurd (omega arith)
-followed-bytes t j n k f bs (runs.followed z a b c) e s h =
-    let p : t ≡ stop_value z = cc in
-    let q : j ≡ a = cc in
-    let r : n ≡ b = cc in
-    let u : k ≡ status_number c = cc in
+followed-bytes t f bs (runs.unopened g) e s h = let z : ◌≡◌ {A = ℕ} 0 1 = cc in absurd (omega arith)
+followed-bytes t f bs (runs.followed z a b c) e s h =
+    let said : t ≡ record { stop = stop_value z; judged = a; events = b; status = status_number c } = cc in
+    let p : t.stop ≡ stop_value z = ap (λ (y : Followed). y.stop) said in
+    let q : t.judged ≡ a = ap (λ (y : Followed). y.judged) said in
+    let r : t.events ≡ b = ap (λ (y : Followed). y.events) said in
+    let u : t.status ≡ status_number c = ap (λ (y : Followed). y.status) said in
     h ∙ λ i. refusal_bytes (s z p i) ++ (spell 4 (q i) ++ (spell 4 (r i) ++ (u i ∷ [])))
 
 -- ---- the run

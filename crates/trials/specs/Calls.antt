@@ -1,21 +1,19 @@
 -- A batch's bytes: a call, and its answer.
-use Rattle.std.specs.Prelude.{ℕ, ◌+◌, ◌-◌, ◌≤◌, ◌<◌, ◌≡◌, true, false, [], ◌∷◌, ◌++◌, eqb, length, take, drop}
+use Rattle.std.specs.Prelude.{ℕ, ◌+◌, ◌-◌, ◌≤◌, ◌<◌, ◌≡◌, true, false, [], ◌∷◌, ◌++◌, eqb, length, take, drop, Result, Ok, Err}
 use Rattle.spec_policy.specs.Bytes.{Bytes, number, spell}
 use Rattle.spec_policy.specs.Spots.{Fault, bare_fault}
 use Rattle.spec_check.specs.Check.{Answer, passes, refused}
 use Rattle.spec_turns.specs.Turn.{Request, opening, offer, close}
-use Rattle.spec_turns.specs.Entries.{Result, entry}
+use Rattle.spec_turns.specs.Entries as entries
+use Rattle.spec_turns.specs.Entries.{entry}
 use Rattle.faults.specs.Meaning.{fault_of, spot_code}
+use Rattle.faults.specs.declared.Fault as code
+use Rattle.call_answer.specs.Replies as guard
 use Rattle.call_answer.specs.Replies.{spoken}
-use Rattle.call_answer.specs.declared.Answer as guard
-use Rattle.call_answer.specs.declared.Answer.TheVariants.{Answered, Refused}
 use Rattle.spec_writer.specs.Writing as writing
 use Rattle.file_writer.specs.Replies as replies
-use Rattle.file_writer.specs.declared.Written.{Written}
-use Rattle.file_writer.specs.declared.Written.TheVariants as written
 use Rattle.trials.specs.declared.calls.Parts.{Parts}
-use Rattle.trials.specs.declared.calls.Call.{Call}
-use Rattle.trials.specs.declared.calls.Call.TheVariants.{Whole, Short}
+use Rattle.trials.specs.declared.calls.Short.{Short}
 
 -- A call: entry (1), policy length (2) and bytes, state length (2) and bytes, event-buffer length (2) and bytes, action (1). Where a
 -- field ends whose length stands at `at`:
@@ -72,7 +70,7 @@ unfoldable pub request : ℕ → ℕ → Request
 request n a = elim (eqb n 1) [ true ↦ opening | false ↦ elim (eqb n 2) [ true ↦ offer a | false ↦ close ] ]
 
 -- what the call gives, where it is no check
-unfoldable pub called : Bytes → Result
+unfoldable pub called : Bytes → entries.Result
 called bs = entry (policy_in bs) (request (number bs 0 1) (number bs (events_end bs) 1)) (state_in bs) (events_in bs)
 
 -- entry 4 writes a file: nodes, steps and output are given in place of the policy, the state and the event buffer
@@ -80,14 +78,14 @@ unfoldable pub file_called : Bytes → writing.Result
 file_called bs = writing.writes (policy_in bs) (state_in bs) (events_in bs)
 
 -- of a call of which `have` bytes have been read; short of more bytes than those, none of which is past the call's end
-unfoldable pub Found : Bytes → ℕ → Call → Type 0
-Found bs have (Whole c) = (events_end bs < have) × Placed bs c
-Found bs have (Short n) = (have < n) × (n ≤ events_end bs + 1) × (n ≤ longest)
+unfoldable pub Found : Bytes → ℕ → Result Parts Short → Type 0
+Found bs have (Ok c) = (events_end bs < have) × Placed bs c
+Found bs have (Err s) = (have < s.wanted) × (s.wanted ≤ events_end bs + 1) × (s.wanted ≤ longest)
 
 -- of a call whose bytes have been asked for until it was whole or the input ended
-unfoldable pub Taken : Bytes → Call → Type 0
-Taken bs (Whole c) = Placed bs c
-Taken bs (Short n) = Unit
+unfoldable pub Taken : Bytes → Result Parts Short → Type 0
+Taken bs (Ok c) = Placed bs c
+Taken bs (Err s) = Unit
 
 -- a refusal number (1; 0 if there is none), and the number of the record that it is about, counted from 1 (2; 0 if there is none)
 unfoldable pub refusal_bytes : Fault → Bytes
@@ -105,19 +103,19 @@ answer_bytes (refused f) = refusal_bytes f ++ (spell 8 0 ++ spell 8 0)
 -- the refusal, events (2), status (1); after them state buffer and event buffer
 unfoldable pub reply_bytes : guard.Answer → Bytes
 unfolding refusal_bytes
-reply_bytes (Answered n s) = refusal_bytes no_refusal ++ (spell 2 n ++ (s ∷ []))
-reply_bytes (Refused f) = refusal_bytes (fault_of f) ++ (0 ∷ 0 ∷ 0 ∷ [])
+reply_bytes (Ok a) = refusal_bytes no_refusal ++ (spell 2 a.events ++ (a.status ∷ []))
+reply_bytes (Err f) = refusal_bytes (fault_of f) ++ (0 ∷ 0 ∷ 0 ∷ [])
 
-pub record Answers (x : Result) (r saved room : Bytes) : Type 0 where
+pub record Answers (x : entries.Result) (r saved room : Bytes) : Type 0 where
   pub reply : r ≡ reply_bytes (spoken x.reply)
   pub state : saved ≡ x.state
   pub events : room ≡ x.events
 
 -- the refusal, length (2); after them the output
-unfoldable pub size_bytes : Written → Bytes
+unfoldable pub size_bytes : Result ℕ code.Fault → Bytes
 unfolding refusal_bytes
-size_bytes (written.Wrote n) = refusal_bytes no_refusal ++ spell 2 n
-size_bytes (written.Refused f) = refusal_bytes (fault_of f) ++ (0 ∷ 0 ∷ [])
+size_bytes (Ok n) = refusal_bytes no_refusal ++ spell 2 n
+size_bytes (Err f) = refusal_bytes (fault_of f) ++ (0 ∷ 0 ∷ [])
 
 pub record Wrote (x : writing.Result) (r room : Bytes) : Type 0 where
   pub reply : r ≡ size_bytes (replies.spoken x.reply)

@@ -37,7 +37,3 @@ pub record Traced (x : runs.Traced) (r saved room : Bytes) (steps actions : List
 -- The action's byte says where all counts of the tally begin: 0, or so many below 4,294,967,296.
 unfoldable pub tally_start : ℕ → ℕ
 tally_start a = elim (eqb a 0) [ true ↦ 0 | false ↦ 2 ^ 32 - a ]
-
--- 512 counts of steps, and 64 each of actions accepted, suppressed and inserted
-abbrev pub tally_counts : ℕ
-tally_counts = 704

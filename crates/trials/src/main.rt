@@ -3,11 +3,11 @@
 #![tactic(auto)]
 
 ghost use Rattle.std.specs.Prelude.{◌≡◌, ◌≤◌, ◌<◌, length};
-ghost use Rattle.trials.specs.Runs.{tally_start, tally_counts};
+ghost use Rattle.trials.specs.Runs.{tally_start};
 ghost use Rattle.trials.specs.Calls.{longest, longest_field, Placed, Taken};
 
 use crate::answers::{call_answer, count_bytes, file_answer, policy_answer, trace_answer};
-use crate::calls::{Call, Parts, find};
+use crate::calls::{CHECK, CLOSE, Call, LENGTH_SIZE, OPEN, POLICY_AT, Parts, TRACE, WRITE, find};
 use run_input::read_full;
 use std::io::{Read, Write};
 use trace_events::ACTION_COUNTS;
@@ -16,11 +16,16 @@ use turn_tally::STEP_COUNTS;
 mod answers;
 mod calls;
 
+// The longest field is as long as its length's two bytes can say. A call has three fields, and the action behind them.
+const LONGEST_FIELD: usize = 65535;
+
+const LONGEST_CALL: usize = POLICY_AT + 3 * LONGEST_FIELD + 2 * LENGTH_SIZE + 1;
+
 // Room for the longest call.
-fn room() -> [u8; 196613]
+fn room() -> [u8; LONGEST_CALL]
     ensures { longest ≡ length result }
 {
-    [0; 196613]
+    [0; LONGEST_CALL]
 }
 
 // Reads the next call to the start of batch, and no byte after it. Short: the input has ended.
@@ -31,16 +36,13 @@ fn read_call<R: Read>(input: &mut R, batch: &mut [u8]) -> Call
 {
     let mut have = 0;
     loop {
-        let found = find(batch, have);
-        match found {
-            Call::Whole(parts) => {
-                return Call::Whole(parts);
-            }
-            Call::Short(wanted) => {
-                if read_full(input, &mut batch[have..wanted]) != wanted - have {
-                    return Call::Short(wanted);
+        match find(batch, have) {
+            Ok(parts) => return Ok(parts),
+            Err(short) => {
+                if read_full(input, &mut batch[have..short.wanted]) != short.wanted - have {
+                    return Err(short);
                 }
-                have = wanted;
+                have = short.wanted;
             }
         }
     }
@@ -56,8 +58,8 @@ fn write_call<W: Write>(
 ) -> bool
     requires { Placed batch.now parts × (longest_field ≤ length state.old) × (longest_field ≤ length events.old) }
 {
-    let of_state = parts.state - (parts.policy + 2);
-    let of_events = parts.events - (parts.state + 2);
+    let of_state = parts.state - (parts.policy + LENGTH_SIZE);
+    let of_events = parts.events - (parts.state + LENGTH_SIZE);
     let bytes = call_answer(batch, parts, state, events);
     let reply = out.write_all(&bytes).is_ok();
     let saved = out.write_all(&state[..of_state]).is_ok();
@@ -69,14 +71,12 @@ fn write_call<W: Write>(
 fn write_file<W: Write>(out: &mut W, batch: &[u8], parts: Parts, room: &mut [u8]) -> bool
     requires { Placed batch.now parts × (longest_field ≤ length room.old) }
 {
-    let of_out = parts.events - (parts.state + 2);
+    let of_out = parts.events - (parts.state + LENGTH_SIZE);
     let bytes = file_answer(batch, parts, room);
     let reply = out.write_all(&bytes).is_ok();
     let told = out.write_all(&room[..of_out]).is_ok();
     reply & told
 }
-
-const TALLY_COUNTS: usize = STEP_COUNTS + ACTION_COUNTS;
 
 // Where all counts of a tally begin.
 fn tally_start(action: u8) -> u32
@@ -88,27 +88,15 @@ fn tally_start(action: u8) -> u32
     u32::MAX - (action as u32 - 1)
 }
 
-// A count of the tally: those of the steps first, then those of the actions.
-fn count_at(steps: &[u32; STEP_COUNTS], actions: &[u32; ACTION_COUNTS], i: usize) -> u32
-    requires { i < tally_counts }
-{
-    if i < STEP_COUNTS {
-        return steps[i];
-    }
-    actions[i - STEP_COUNTS]
-}
-
+// The counts of the tally: those of the steps first, then those of the actions.
 fn write_tally<W: Write>(
     out: &mut W,
     steps: &[u32; STEP_COUNTS],
     actions: &[u32; ACTION_COUNTS],
 ) -> bool {
     let mut written = true;
-    let mut i = 0;
-    while i < TALLY_COUNTS {
-        let bytes = count_bytes(count_at(steps, actions, i));
-        written = out.write_all(&bytes).is_ok() & written;
-        i += 1;
+    for count in steps.iter().chain(actions.iter()) {
+        written &= out.write_all(&count_bytes(*count)).is_ok();
     }
     written
 }
@@ -123,8 +111,8 @@ fn write_trace<W: Write>(
 ) -> bool
     requires { Placed batch.now parts × (longest_field ≤ length state.old) × (longest_field ≤ length events.old) }
 {
-    let of_state = parts.state - (parts.policy + 2);
-    let of_events = parts.events - (parts.state + 2);
+    let of_state = parts.state - (parts.policy + LENGTH_SIZE);
+    let of_events = parts.events - (parts.state + LENGTH_SIZE);
     let start = tally_start(parts.action);
     let mut steps = [start; STEP_COUNTS];
     let mut actions = [start; ACTION_COUNTS];
@@ -146,15 +134,11 @@ fn answer<W: Write>(
 ) -> bool
     requires { Placed batch.now parts × (longest_field ≤ length state.old) × (longest_field ≤ length events.old) }
 {
-    let entry = parts.entry;
-    match entry {
-        0 => {
-            let bytes = policy_answer(batch, parts);
-            out.write_all(&bytes).is_ok()
-        }
-        1..=3 => write_call(out, batch, parts, state, events),
-        4 => write_file(out, batch, parts, events),
-        5 => write_trace(out, batch, parts, state, events),
+    match parts.entry {
+        CHECK => out.write_all(&policy_answer(batch, parts)).is_ok(),
+        OPEN..=CLOSE => write_call(out, batch, parts, state, events),
+        WRITE => write_file(out, batch, parts, events),
+        TRACE => write_trace(out, batch, parts, state, events),
         _ => false,
     }
 }
@@ -169,15 +153,14 @@ fn answer_next<R: Read, W: Write>(
 ) -> bool
     requires { (longest ≤ length batch.old) × (longest_field ≤ length state.old) × (longest_field ≤ length events.old) }
 {
-    let call = read_call(input, batch);
-    match call {
-        Call::Whole(parts) => answer(out, batch, parts, state, events),
-        Call::Short(_) => false,
+    match read_call(input, batch) {
+        Ok(parts) => answer(out, batch, parts, state, events),
+        Err(_) => false,
     }
 }
 
 // Room for the longest field, and a byte.
-const FIELD_ROOM: usize = 65536;
+const FIELD_ROOM: usize = LONGEST_FIELD + 1;
 
 // A proved loop has to end, and nothing says that the input does: the loop counts to a number that no run comes to.
 fn main(rt: HostRuntime) {

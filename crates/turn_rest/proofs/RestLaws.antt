@@ -2,11 +2,8 @@
 use Prim.Native.Nat.{ℕ}
 use mathlib.Core.Path.{◌≡◌, refl, sym, ap, ap₂, ◌∙◌}
 use mathlib.Core.Bool.{Bool}
-use mathlib.Core.List.{[], ◌∷◌}
 use lib.Dec.{eqb}
 use lib.ListN.{set}
-use types.Run.{OneOf, miss}
-use denote.Enum.Declared.{tag_of}
 use borrow.Author.Tests.{eq-eqb, ne_eqb}
 use Rattle.spec_policy.specs.Bytes.{Bytes, spell}
 use Rattle.spec_policy.specs.Records.{Node, node_place, node_at}
@@ -14,7 +11,6 @@ use Rattle.spec_policy.specs.Tree.{NodeKind, aLeaf, node_kind}
 use Rattle.spec_turns.specs.Status.{status_number}
 use Rattle.spec_turns.specs.Saved.{cell}
 use Rattle.file_records.specs.Kinds.{kind_of}
-use Rattle.file_records.specs.contracts.Kind.{the_type}
 use Rattle.file_records.specs.declared.Kind.{Kind}
 use Rattle.file_records.specs.declared.Kind.TheVariants as kinds
 use Rattle.file_records.specs.declared.Way as ways
@@ -66,13 +62,13 @@ module _ (file : Bytes) (i : ℕ) {p : ℕ} (place : p ≡ node_place i) (k : Ki
         by_kind (kinds.Pair v j) e bare
         (g ∙ ap₂ (λ (b : Bool) (x : Node). sides_over b x ws) (ap (λ (m : ℕ). eqb m 1) is ∙ number-runs (memory_of ws i).status) (ap (node_at file) place))
 
-    pub rests-other : OneOf (1 ∷ 2 ∷ 4 ∷ []) (tag_of the_type k) → Rested file i ws ws r
+    pub rests-other : (k ≡ kinds.Leaf → ⊥) → ((v : ways.Way) (j : joins.Join) → k ≡ kinds.Pair v j → ⊥) → Rested file i ws ws r
     unfolding kind_of own_of under_of
-    rests-other o = go k refl o
+    rests-other no-leaf no-pair = go k refl
       where
-        go : (q : Kind) → k ≡ q → OneOf (1 ∷ 2 ∷ 4 ∷ []) (tag_of the_type q) → Rested file i ws ws r
-        go kinds.Leaf e o = absurd (miss (1 ∷ 2 ∷ 4 ∷ []) 0 tt o)
-        go kinds.Trivial e o = by_kind kinds.Trivial e bare refl
-        go kinds.Unsatisfiable e o = by_kind kinds.Unsatisfiable e bare refl
-        go (kinds.Pair _ _) e o = absurd (miss (1 ∷ 2 ∷ 4 ∷ []) 3 tt o)
-        go kinds.Unknown e o = by_kind kinds.Unknown e bare refl
+        go : (q : Kind) → k ≡ q → Rested file i ws ws r
+        go kinds.Leaf e = absurd (no-leaf e)
+        go kinds.Trivial e = by_kind kinds.Trivial e bare refl
+        go kinds.Unsatisfiable e = by_kind kinds.Unsatisfiable e bare refl
+        go (kinds.Pair v j) e = absurd (no-pair v j e)
+        go kinds.Unknown e = by_kind kinds.Unknown e bare refl

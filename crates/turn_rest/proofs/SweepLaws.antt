@@ -20,7 +20,7 @@ use Rattle.spec_check.specs.Numbers.{shaped, Distinct}
 use Rattle.spec_check.proofs.Numbers.{ChildrenLater, tree-read, children-read, tree-top, number_at, all_held}
 use Rattle.laws_check.proofs.LawfulTree.{lawful}
 use Rattle.spec_turns.specs.Status.{Status, dropped, status_of, is_running}
-use Rattle.spec_turns.specs.State.{State, pair_state, status, pair_with}
+use Rattle.spec_turns.specs.State.{State, pair_state, pair_with}
 use Rattle.spec_turns.specs.Saved.{cells_size, cell_place, cell}
 use Rattle.laws_turns.proofs.Cells.{lawful-apart, holds-left, holds-right, put-size, put-cell, put-elsewhere}
 use Rattle.laws_turns.specs.Cells.{cell_at}

@@ -21,10 +21,8 @@ pub fn awaken(policy: &[u8], n: usize, mem: &mut [u64; WORDS])
     ensures mem_after { held (tree policy.now) (memory_of mem.new) ≡ fresh (tree policy.now) }
     ensures kept_from { KeptFrom n mem.old mem.new }
 {
-    let mut i = 0;
-    while i < n {
+    for i in 0..n {
         put(mem, i, RUNNING, 0, MARKED, view_start(policy, i));
-        i += 1;
     }
 }
 
@@ -33,9 +31,7 @@ pub fn wake(state: &[u8], n: usize, mem: &mut [u64; WORDS])
     requires { (length state.now ≡ state_size) × ((length mem.old ≡ word_count) × (n ≤ most_nodes)) }
     ensures { Woken n (cells state.now) mem.new × KeptFrom n mem.old mem.new }
 {
-    let mut i = 0;
-    while i < n {
+    for i in 0..n {
         mem[i] = saved_word(state, i);
-        i += 1;
     }
 }

@@ -22,13 +22,10 @@ use turn_state::{DROPPED, RUNNING, clear_from, running_leaf, save_count, save_wo
 fn standing(status: u8) -> u8
     ensures { result ≡ status_number (status_of status) }
 {
-    if status == 0 {
-        return DROPPED;
+    match status {
+        RUNNING..=DROPPED => status,
+        _ => DROPPED,
     }
-    if status > DROPPED {
-        return DROPPED;
-    }
-    status
 }
 
 // A leaf that does not run has offset and counter zero.
@@ -51,8 +48,8 @@ fn drop_sides(policy: &[u8], mem: &mut [u64; WORDS], node: usize, status: u8)
     if status == RUNNING {
         return;
     }
-    put(mem, view_left(policy, node) as usize, DROPPED, 0, 0, 0);
-    put(mem, view_right(policy, node) as usize, DROPPED, 0, 0, 0);
+    put(mem, usize::from(view_left(policy, node)), DROPPED, 0, 0, 0);
+    put(mem, usize::from(view_right(policy, node)), DROPPED, 0, 0, 0);
 }
 
 // The word that is saved of a node; and its sides are dropped where it is decided.
@@ -60,9 +57,8 @@ fn rest(policy: &[u8], node: usize, mem: &mut [u64; WORDS]) -> u64
     requires { (Passed policy.now × (node < node_count policy.now)) × (length mem.old ≡ word_count) }
     ensures { Rested policy.now node mem.old mem.new result }
 {
-    let kind = view_kind(policy, node);
     let status = standing(status_at(mem, node));
-    match kind {
+    match view_kind(policy, node) {
         Kind::Leaf => leaf_word(mem, node, status),
         Kind::Pair(_, _) => {
             drop_sides(policy, mem, node, status);
@@ -80,12 +76,10 @@ fn sweep(policy: &[u8], n: usize, mem: &mut [u64; WORDS], state: &mut [u8]) -> u
     ensures state_len { length state.new ≡ state_size }
 {
     let mut leaves = 0;
-    let mut i = 0;
-    while i < n {
+    for i in 0..n {
         leaves += running_leaf(policy, i, status_at(mem, i));
-        let x = rest(policy, i, mem);
-        save_word(state, i, x);
-        i += 1;
+        let word = rest(policy, i, mem);
+        save_word(state, i, word);
     }
     leaves
 }

@@ -1,4 +1,3 @@
-mod LeafLaws
 mod PlaceLaws
 mod WordLaws
 mod ZeroLaws

@@ -4,14 +4,14 @@ use native.Mathlib.Nat.{zero-add}
 use native.Mathlib.Omega.{arith}
 use mathlib.Core.Path.{◌≡◌, refl, sym, ap, ap₂, ◌∙◌}
 use mathlib.Core.Bool.{Bool, true, false, ◌&&◌}
-use mathlib.Core.List.{List, [], ◌∷◌, ◌++◌}
+use mathlib.Core.List.{[], ◌∷◌, ◌++◌}
 use lib.Dec.{eqb}
 use lib.ListN.{length, take, drop, replicate}
 use lib.Seq.{take-nil, drop-append-le, drop-drop, length-take-le}
-use borrow.Author.Tests.{eq-eqb, ne_eqb, eqb-true, eqb-false}
+use borrow.Author.Tests.{ne_eqb, eqb-true, eqb-false}
 use Rattle.spec_policy.specs.Bytes.{Bytes, number, spelt, spell, put, Small}
 use Rattle.spec_policy.specs.Records.{most_nodes}
-use Rattle.spec_policy.proofs.ByteLaws.{number-less, put-length, spell-length}
+use Rattle.spec_policy.proofs.ByteLaws.{put-length, spell-length}
 use Rattle.spec_policy.proofs.NumberLaws.{number-join}
 use Rattle.laws_turns.proofs.Cells.{cells-size}
 use Rattle.spec_turns.specs.Saved.{ahead_size, count_place, cell_size, state_size, cells, cell_place, ahead, count_at}

@@ -1,44 +1,35 @@
--- A word written as eight bytes.
-use Prim.Native.Nat.{ℕ, suc, ◌+◌, ◌/◌, ◌%◌, ◌≤◌}
-use native.Mathlib.Omega.{arith}
+-- A word written as eight bytes, and bytes written over a part of a slice.
+use Prim.Native.Nat.{ℕ, ◌+◌, ◌/◌, ◌%◌}
 use native.Mathlib.Nat.{div-one}
 use mathlib.Core.Path.{◌≡◌, sym, ap, ◌∙◌}
-use mathlib.Core.List.{[], ◌∷◌}
-use lib.ListN.{length, set}
-use lib.Seq.{sets}
+use mathlib.Core.List.{[], ◌∷◌, ◌++◌}
+use lib.ListN.{length, take, drop}
+use lib.Seq.{drop-drop}
+use borrow.Rule.Slice.PartMut.{put_mid}
+use Rattle.std.specs.Int.{w64, to_be_bytes}
 use Rattle.spec_policy.specs.Bytes.{Bytes, spell, put}
-use Rattle.spec_policy.proofs.ByteLaws.{put-sets}
+use Rattle.spec_policy.proofs.ByteLaws.{spell-length}
 
--- eight bytes, one after another
-eight : (bs : Bytes) (p a b c d e f g h : ℕ)
-    → set (set (set (set (set (set (set (set bs p a) (p + 1) b) (p + 2) c) (p + 3) d) (p + 4) e) (p + 5) f) (p + 6) g) (p + 7) h
-    ≡ sets bs p (a ∷ b ∷ c ∷ d ∷ e ∷ f ∷ g ∷ h ∷ [])
-eight bs p a b c d e f g h =
-    let e1 : p + 1 ≡ suc p = omega arith in
-    let e2 : p + 2 ≡ suc (suc p) = omega arith in
-    let e3 : p + 3 ≡ suc (suc (suc p)) = omega arith in
-    let e4 : p + 4 ≡ suc (suc (suc (suc p))) = omega arith in
-    let e5 : p + 5 ≡ suc (suc (suc (suc (suc p)))) = omega arith in
-    let e6 : p + 6 ≡ suc (suc (suc (suc (suc (suc p))))) = omega arith in
-    let e7 : p + 7 ≡ suc (suc (suc (suc (suc (suc (suc p)))))) = omega arith in
-    rw (e1, e2, e3, e4, e5, e6, e7)
+-- a part of so many bytes, and as many in its place
+pub part-put : (bs ys : Bytes) (at size : ℕ) → length ys ≡ size → put_mid at size bs ys ≡ put bs at ys
+unfolding put
+part-put bs ys at size e =
+    ap (λ (l : Bytes). take at bs ++ (ys ++ l)) (drop-drop size at bs) ∙ ap (λ (n : ℕ). take at bs ++ (ys ++ drop (at + n) bs)) (sym e)
 
-pub word-put : (bs : Bytes) (p x : ℕ) → p + 8 ≤ length bs
-    → set (set (set (set (set (set (set (set bs p (x / 72057594037927936 % 256)) (p + 1) (x / 281474976710656 % 256)) (p + 2) (x / 1099511627776 % 256))
-    (p + 3) (x / 4294967296 % 256)) (p + 4) (x / 16777216 % 256)) (p + 5) (x / 65536 % 256)) (p + 6) (x / 256 % 256)) (p + 7) (x % 256)
-    ≡ put bs p (spell 8 x)
+spelled : (x : ℕ) → to_be_bytes w64 x ≡ spell 8 x
 unfolding spell
-word-put bs p x h =
-    let z : x % 256 ≡ x / 1 % 256 = ap (λ (y : ℕ). y % 256) (sym (div-one x)) in
-    eight bs p (x / 72057594037927936 % 256) (x / 281474976710656 % 256) (x / 1099511627776 % 256) (x / 4294967296 % 256) (x / 16777216 % 256)
-    (x / 65536 % 256) (x / 256 % 256) (x % 256)
-    ∙ ap (λ (y : ℕ). sets bs p (x / 72057594037927936 % 256
+spelled x =
+    ap (λ (last : ℕ). x / 72057594037927936 % 256
     ∷ x / 281474976710656 % 256
     ∷ x / 1099511627776 % 256
     ∷ x / 4294967296 % 256
     ∷ x / 16777216 % 256
     ∷ x / 65536 % 256
     ∷ x / 256 % 256
-    ∷ y
-    ∷ [])) z
-    ∙ sym (put-sets bs p (spell 8 x) (omega arith))
+    ∷ last
+    ∷ []) (ap (λ (y : ℕ). y % 256) (sym (div-one x)))
+
+pub word-put : (bs ys : Bytes) (at size x : ℕ) → ys ≡ to_be_bytes w64 x → size ≡ 8 → put_mid at size bs ys ≡ put bs at (spell 8 x)
+word-put bs ys at size x e z =
+    let s : ys ≡ spell 8 x = e ∙ spelled x in
+    part-put bs ys at size (ap length s ∙ spell-length 8 x ∙ sym z) ∙ ap (put bs at) s

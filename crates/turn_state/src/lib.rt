@@ -89,14 +89,8 @@ pub fn running_leaf(policy: &[u8], node: usize, status: u8) -> u64
     requires { (node ≤ 255) × (node_place node + node_size ≤ length policy.now) }
     ensures { result ≡ one (is_leaf (node_kind (node_at policy.now (node_place node)).kind) && is_running (status_of status)) }
 {
-    let kind = view_kind(policy, node);
-    match kind {
-        Kind::Leaf => {
-            if status == RUNNING {
-                return 1;
-            }
-            0
-        }
+    match view_kind(policy, node) {
+        Kind::Leaf => u64::from(status == RUNNING),
         _ => 0,
     }
 }
@@ -144,13 +138,8 @@ pub fn is_empty_from(state: &[u8], node: usize) -> bool
     requires { (length state.now ≡ state_size) × (node ≤ most_nodes) }
     ensures { result ≡ every (λ b. eqb b 0) (drop (cell_place node) (cells state.now)) }
 {
-    let mut all = 0;
-    let mut i = cell_place(node);
-    while i < STATE_SIZE {
-        all |= byte(state, i);
-        i += 1;
-    }
-    all == 0
+    let records = &state[cell_place(node)..];
+    records.iter().fold(0, |joined, byte| joined | byte) == 0
 }
 
 // ---- writing
@@ -160,14 +149,7 @@ fn put_word(state: &mut [u8], at: usize, x: u64)
     requires { at + cell_size ≤ length state.old }
     ensures { state.new ≡ put state.old at (spell 8 x) }
 {
-    state[at] = (x / 72057594037927936 % 256) as u8;
-    state[at + 1] = (x / 281474976710656 % 256) as u8;
-    state[at + 2] = (x / 1099511627776 % 256) as u8;
-    state[at + 3] = (x / 4294967296 % 256) as u8;
-    state[at + 4] = (x / 16777216 % 256) as u8;
-    state[at + 5] = (x / 65536 % 256) as u8;
-    state[at + 6] = (x / 256 % 256) as u8;
-    state[at + 7] = (x % 256) as u8;
+    state[at..at + CELL_SIZE].copy_from_slice(&x.to_be_bytes());
 }
 
 // A node's record, as one number.
@@ -194,9 +176,6 @@ pub fn clear_from(state: &mut [u8], node: usize)
         (length state.new ≡ state_size)
         × (cells state.new ≡ put records (cell_place node) (replicate (length records - cell_place node) 0)) }
 {
-    let mut at = cell_place(node);
-    while at < state.len() {
-        state[at] = 0;
-        at += 1;
-    }
+    let first = cell_place(node);
+    state[first..].fill(0);
 }

@@ -5,7 +5,6 @@ use mathlib.Core.Path.{◌≡◌, refl, sym, ◌∙◌, subst}
 use mathlib.Core.Logic.{⊎_elim}
 use lib.ListN.{length, get_or, set, length-set}
 use lib.Seq.{get_or-set_same, get_or-set_other}
-use Rattle.actions.specs.Sets.{union}
 use Rattle.spec_policy.specs.Tree.{Way, parallel, sequential}
 use Rattle.turn_paths.proofs.Frames.{same_or_not}
 use Rattle.turn_memory.specs.Words.{Words, above_place, link_place, word_count}
@@ -136,14 +135,3 @@ module _ (w : Way) {ws : Words} {i l r : ℕ} (s : Sided ws i l r) where
 
   pub right-feeder : feeder_at ws' r ≡ f
   right-feeder = past-feeder r s.right (λ z. s.two (sym z)) ∙ up-feeder ws r (first_at ws r) a f s.size s.right (omega arith)
-
--- as the code makes them, with what it read before
-module _ {w : Way} (ws : Words) {us vs : Words} (i l r : ℕ) {o p a f : ℕ} (eo : o ≡ first_at ws r) (ep : p ≡ first_at ws l) (ea : a ≡ above_at ws i) (ef : f ≡ feeder_at ws i)
-    (first : us ≡ way_up ws r o a f) where
-  pub sides-parallel : w ≡ parallel → vs ≡ way_up us l p a f → vs ≡ sides_up w ws i l r
-  unfolding sides_up left_feeder left_above
-  sides-parallel e second = rw e (cc)
-
-  pub sides-sequential : {b : ℕ} → w ≡ sequential → b ≡ union (set_at ws r) a → vs ≡ way_up us l p b i → vs ≡ sides_up w ws i l r
-  unfolding sides_up left_feeder left_above
-  sides-sequential e eb second = rw e (cc)

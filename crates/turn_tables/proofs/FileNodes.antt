@@ -46,31 +46,9 @@ node-room ok i at h e = let r = room ok in omega arith
 pub node-in : {file : Bytes} → Passed file → (i : ℕ) → i < node_count file → (i ≤ 255) × (node_place i + node_size ≤ length file)
 node-in ok i h = (omega (arith, (room ok).few), node-room ok i _ h refl)
 
--- ---- the steps that a node owns
-
 module _ (file : Bytes) (at : ℕ) (k : Kind) (read : kind_of k ≡ node_kind (node_at file at).kind) where
   kind-is : {x : Kind} → k ≡ x → node_kind (node_at file at).kind ≡ kind_of x
   kind-is e = sym read ∙ ap kind_of e
-
-  pub owned-leaf : k ≡ kinds.Leaf → {b : ℕ} → b ≡ (node_at file at).count → b ≡ steps_owned (node_at file at)
-  unfolding steps_owned kind_of
-  owned-leaf e f = f ∙ sym (rw (kind-is e, steps_owned))
-
-  pub owned-trivial : k ≡ kinds.Trivial → 0 ≡ steps_owned (node_at file at)
-  unfolding steps_owned kind_of
-  owned-trivial e = sym (rw (kind-is e, steps_owned))
-
-  pub owned-unsatisfiable : k ≡ kinds.Unsatisfiable → 0 ≡ steps_owned (node_at file at)
-  unfolding steps_owned kind_of
-  owned-unsatisfiable e = sym (rw (kind-is e, steps_owned))
-
-  pub owned-pair : {w : declared.Way} {j : joins.Join} → k ≡ kinds.Pair w j → 0 ≡ steps_owned (node_at file at)
-  unfolding steps_owned kind_of
-  owned-pair e = sym (rw (kind-is e, steps_owned))
-
-  pub owned-unknown : k ≡ kinds.Unknown → 0 ≡ steps_owned (node_at file at)
-  unfolding steps_owned kind_of
-  owned-unknown e = sym (rw (kind-is e, steps_owned))
 
 -- ---- the tree under a node, by the kind that the code read
 
@@ -85,17 +63,16 @@ module _ {file : Bytes} (ok : Passed file) (i : ℕ) (h : i < node_count file) {
   unfolding kind_of shaped regulated
   set-leaf e f = f ∙ ap (λ (y : Node). y.set) (sym (node-read file h place)) ∙ sym (ap regulated (tree-read e))
 
-  pub set-trivial : k ≡ kinds.Trivial → 0 ≡ regulated (tree_at file i)
+  pub set-none : (k ≡ kinds.Leaf → ⊥) → ((w : declared.Way) (j : joins.Join) → k ≡ kinds.Pair w j → ⊥) → 0 ≡ regulated (tree_at file i)
   unfolding kind_of shaped regulated EMPTY
-  set-trivial e = sym (ap regulated (tree-read e))
-
-  pub set-unsatisfiable : k ≡ kinds.Unsatisfiable → 0 ≡ regulated (tree_at file i)
-  unfolding kind_of shaped regulated EMPTY
-  set-unsatisfiable e = sym (ap regulated (tree-read e))
-
-  pub set-unknown : k ≡ kinds.Unknown → 0 ≡ regulated (tree_at file i)
-  unfolding kind_of shaped regulated EMPTY
-  set-unknown e = sym (ap regulated (tree-read e))
+  set-none no-leaf no-pair = go k refl
+    where
+      go : (x : Kind) → k ≡ x → 0 ≡ regulated (tree_at file i)
+      go kinds.Leaf e = absurd (no-leaf e)
+      go kinds.Trivial e = sym (ap regulated (tree-read e))
+      go kinds.Unsatisfiable e = sym (ap regulated (tree-read e))
+      go (kinds.Pair w j) e = absurd (no-pair w j e)
+      go kinds.Unknown e = sym (ap regulated (tree-read e))
 
   pub kids : {w : declared.Way} {j : joins.Join} → k ≡ kinds.Pair w j → ChildrenLater (node_count file) i (node_at file at)
   unfolding kind_of

@@ -298,16 +298,16 @@ module _ (policy : Bytes) (i : ℕ) {at : ℕ} (p : at ≡ node_place i) (k : ki
   unfolding kind_at
   kind-at = sym (read ∙ ap (λ (x : ℕ). node_kind (node_at policy x).kind) p)
 
-  pub none-entered : {ws : Words} (k' : kinds.Kind) → k ≡ k' → is_pair (kind_of k') ≡ false → ws ≡ entered (kind_at policy i) policy i ws
-  unfolding is_pair entered
-  none-entered {ws} k' e f = by (kind_at policy i) (ap is_pair (kind-at ∙ ap kind_of e) ∙ f)
+  pub none-entered : {ws : Words} → ((w : declared.Way) (j : joins.Join) → k ≡ variants.Pair w j → ⊥) → ws ≡ entered (kind_at policy i) policy i ws
+  unfolding kind_of entered
+  none-entered {ws} no-pair = go k refl
     where
-      by : (x : NodeKind) → is_pair x ≡ false → ws ≡ entered x policy i ws
-      by aLeaf z = refl
-      by aTrivial z = refl
-      by an_unsatisfiable z = refl
-      by no_node z = refl
-      by (aPair w j) z = absurd (true-not-false refl z)
+      go : (x : kinds.Kind) → k ≡ x → ws ≡ entered (kind_at policy i) policy i ws
+      go variants.Leaf e = rw (kind-at ∙ ap kind_of e, entered)
+      go variants.Trivial e = rw (kind-at ∙ ap kind_of e, entered)
+      go variants.Unsatisfiable e = rw (kind-at ∙ ap kind_of e, entered)
+      go (variants.Pair w j) e = absurd (no-pair w j e)
+      go variants.Unknown e = rw (kind-at ∙ ap kind_of e, entered)
 
   pub pair-at : {w : declared.Way} {j : joins.Join} → k ≡ variants.Pair w j → kind_at policy i ≡ aPair (way_of w) (join_of j)
   unfolding kind_of

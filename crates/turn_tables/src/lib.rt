@@ -67,6 +67,7 @@ pub fn first_of(mem: &[u64; WORDS], node: usize) -> usize
 // ---- entries
 
 // Enters a node's way up, and beside it the number of its first step, which is in the same word.
+#[tactic(auto, unfolding(crate::specs::Entries::way_up))]
 fn link(mem: &mut [u64; WORDS], node: usize, first: usize, above: ActionSet, feeder: usize)
     requires { (node < most_nodes) × ((first < 65536) × (feeder < 256)) }
     ensures { mem.new ≡ way_up mem.old node first above.bits feeder }
@@ -78,17 +79,14 @@ fn link(mem: &mut [u64; WORDS], node: usize, first: usize, above: ActionSet, fee
 // ---- the first pass: regulated sets and first steps
 
 // How many steps the node has.
+#[tactic(auto, unfolding(spec_policy::specs::Tree::steps_owned, file_records::specs::Kinds::kind_of))]
 fn steps_owned(policy: &[u8], node: usize) -> u8
     requires { (node ≤ 255) × (node_place node + node_size ≤ length policy.now) }
     ensures { result ≡ steps_owned (node_at policy.now (node_place node)) }
 {
-    let kind = view_kind(policy, node);
-    match kind {
+    match view_kind(policy, node) {
         Kind::Leaf => view_count(policy, node),
-        Kind::Trivial => 0,
-        Kind::Unsatisfiable => 0,
-        Kind::Pair(_, _) => 0,
-        Kind::Unknown => 0,
+        _ => 0,
     }
 }
 
@@ -98,17 +96,14 @@ fn regulated(policy: &[u8], node: usize, mem: &[u64; WORDS]) -> ActionSet
     requires by_index { (k : ℕ) → node < k → k < node_count policy.now → set_at mem.now k ≡ regulated (tree_at policy.now k) }
     ensures { result.bits ≡ regulated (tree_at policy.now node) }
 {
-    let kind = view_kind(policy, node);
-    match kind {
+    match view_kind(policy, node) {
         Kind::Leaf => view_set(policy, node),
-        Kind::Trivial => ActionSet::EMPTY,
-        Kind::Unsatisfiable => ActionSet::EMPTY,
         Kind::Pair(_, _) => {
-            let left = set_of(mem, view_left(policy, node) as usize);
-            let right = set_of(mem, view_right(policy, node) as usize);
+            let left = set_of(mem, usize::from(view_left(policy, node)));
+            let right = set_of(mem, usize::from(view_right(policy, node)));
             left.union(right)
         }
-        Kind::Unknown => ActionSet::EMPTY,
+        _ => ActionSet::EMPTY,
     }
 }
 
@@ -118,12 +113,10 @@ fn enter_sets(policy: &[u8], n: usize, m: usize, mem: &mut [u64; WORDS])
     requires mem_len { length mem.old ≡ word_count }
     ensures { Begun policy.now mem.old mem.new }
 {
-    let mut i = n;
     let mut first = m;
-    while i > 0 {
-        i -= 1;
+    for i in (0..n).rev() {
         let set = regulated(policy, i, mem);
-        first -= steps_owned(policy, i) as usize;
+        first -= usize::from(steps_owned(policy, i));
         mem[SETS + i] = set.bits;
         link(mem, i, first, ActionSet::EMPTY, NONE);
     }
@@ -132,6 +125,7 @@ fn enter_sets(policy: &[u8], n: usize, m: usize, mem: &mut [u64; WORDS])
 // ---- the second pass: the way up
 
 // Enters the way up of a node's sides: the node's own, but that a sequential node takes its left side's inserts itself.
+#[tactic(auto, unfolding(crate::specs::Entries::sides_up, crate::specs::Entries::way_up, crate::specs::Entries::left_feeder, crate::specs::Entries::left_above, file_records::specs::Kinds::way_of))]
 fn link_sides(mem: &mut [u64; WORDS], node: usize, way: Way, left: usize, right: usize)
     requires { (node < most_nodes) × ((left < most_nodes) × (right < most_nodes)) }
     ensures { mem.new ≡ sides_up (way_of way) mem.old node left right }
@@ -151,19 +145,14 @@ fn link_node(policy: &[u8], node: usize, mem: &mut [u64; WORDS])
     requires { Passed policy.now × (node < node_count policy.now) }
     ensures { mem.new ≡ entered (kind_at policy.now node) policy.now node mem.old }
 {
-    let kind = view_kind(policy, node);
-    match kind {
-        Kind::Leaf => {}
-        Kind::Trivial => {}
-        Kind::Unsatisfiable => {}
-        Kind::Pair(way, _) => link_sides(
+    if let Kind::Pair(way, _) = view_kind(policy, node) {
+        link_sides(
             mem,
             node,
             way,
             left_of(policy, node),
             right_of(policy, node),
-        ),
-        Kind::Unknown => {}
+        );
     }
 }
 
@@ -174,9 +163,7 @@ pub fn prepare(policy: &[u8], n: usize, m: usize, mem: &mut [u64; WORDS])
     ensures { Tabled policy.now mem.new × Kept mem.old mem.new }
 {
     enter_sets(policy, n, m, mem);
-    let mut i = 0;
-    while i < n {
+    for i in 0..n {
         link_node(policy, i, mem);
-        i += 1;
     }
 }

@@ -29,9 +29,7 @@ pub fn tell(mem: &mut [u64; WORDS], events: &mut [u8], count: usize) -> usize
         → Sent es mem.new events.old events.new count result }
 {
     let n = mem[TOLD_COUNT] as usize;
-    let mut k = n;
-    while k > 0 {
-        k -= 1;
+    for k in (0..n).rev() {
         let at = TOLD + k / 8;
         let word = mem[at];
         let place = 2 * (count + k);

@@ -9,6 +9,6 @@ pub returns-then-suppressed : goal.returns-then-suppressed
 unfolding event_bytes event_of spec.verdict
 returns-then-suppressed c a = ap (λ (u : Bool). event_bytes (event_of (spec.verdict u a))) c.if-suppressed.true
 
-pub returns : goal.returns
+pub returns-else-suppressed : goal.returns-else-suppressed
 unfolding event_bytes event_of spec.verdict
-returns c a = ap (λ (u : Bool). event_bytes (event_of (spec.verdict u a))) c.if-suppressed.false
+returns-else-suppressed c a = ap (λ (u : Bool). event_bytes (event_of (spec.verdict u a))) c.if-suppressed.false

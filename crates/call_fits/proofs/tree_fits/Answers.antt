@@ -13,7 +13,7 @@ use Rattle.spec_check.specs.Passed.{Passed}
 use Rattle.spec_check.proofs.Rows.{all-owned}
 use Rattle.check_leaves.proofs.LeafLaws.{Counted}
 use Rattle.call_fits.proofs.FileLaws.{frame, in-view, counts, step_back}
-use Rattle.call_fits.proofs.CountLaws.{leaves-from-none, leaves-from-few, leaves-from-more, leaf-adds, other-adds, leaves-counted}
+use Rattle.call_fits.proofs.CountLaws.{leaves-from-none, leaves-from-few, runs-one, leaves-from-more, leaf-adds, other-adds, leaves-counted}
 use Rattle.call_fits.proofs.TreeLaws.{known_more, root}
 use Rattle.call_fits.proofs.tree_fits.Goals as goal
 
@@ -41,62 +41,57 @@ loop-i-init c =
       leaves-from-none _ _ _,
     )
 
-pub view_count-count-requires : goal.view_count-count-requires
-view_count-count-requires c = in-view c.requires.passed.0 _ _ (omega (arith, c.loop-i.invariant.0, c.requires.passed.1)) refl
-
-pub overflow_cast-count : goal.overflow_cast-count
-overflow_cast-count c =
-    let b = node_before c.requires.passed.0 _ c.loop-i.i _ c.loop-i.invariant.0 c.requires.passed.1 c.loop-i-test.true c.view_count-count.ensures in
-    omega (arith, b.counted_here.few)
+pub view_count-requires : goal.view_count-requires
+view_count-requires c = in-view c.requires.passed.0 _ _ (omega (arith, c.loop-i.invariant.0, c.requires.passed.1)) refl
 
 pub overflow_sub-first : goal.overflow_sub-first
 overflow_sub-first c =
-    let b = node_before c.requires.passed.0 _ c.loop-i.i _ c.loop-i.invariant.0 c.requires.passed.1 c.loop-i-test.true c.view_count-count.ensures in
+    let b = node_before c.requires.passed.0 _ c.loop-i.i _ c.loop-i.invariant.0 c.requires.passed.1 c.loop-i-test.true (c.from-count.ensures ∙ c.view_count.ensures) in
     omega (arith, b.back, c.loop-i.invariant.1)
 
 pub node_fits-requires : goal.node_fits-requires
 node_fits-requires c =
-    let b = node_before c.requires.passed.0 _ c.loop-i.i _ c.loop-i.invariant.0 c.requires.passed.1 c.loop-i-test.true c.view_count-count.ensures in
+    let b = node_before c.requires.passed.0 _ c.loop-i.i _ c.loop-i.invariant.0 c.requires.passed.1 c.loop-i-test.true (c.from-count.ensures ∙ c.view_count.ensures) in
     record {
       passed = (c.requires.passed.0, b.below);
-      first_value = (omega (arith, b.back, c.loop-i.invariant.1), c.view_count-count.ensures);
+      first_value = (omega (arith, b.back, c.loop-i.invariant.1), (c.from-count.ensures ∙ c.view_count.ensures));
       state_len = (c.requires.state_len, omega (arith, c.loop-i.invariant.2));
       by_index = λ k h m. c.loop-i.invariant.3 k (omega arith) (omega (arith, c.requires.passed.1));
     }
 
 pub bounds-fit-i : goal.bounds-fit-i
 bounds-fit-i c =
-    let b = node_before c.requires.passed.0 _ c.loop-i.i _ c.loop-i.invariant.0 c.requires.passed.1 c.loop-i-test.true c.view_count-count.ensures in
+    let b = node_before c.requires.passed.0 _ c.loop-i.i _ c.loop-i.invariant.0 c.requires.passed.1 c.loop-i-test.true (c.from-count.ensures ∙ c.view_count.ensures) in
     omega (arith, b.below, frame c.requires.passed.0)
 
 pub saved_status-requires : goal.saved_status-requires
 saved_status-requires c =
-    let b = node_before c.requires.passed.0 _ c.loop-i.i _ c.loop-i.invariant.0 c.requires.passed.1 c.loop-i-test.true c.view_count-count.ensures in
+    let b = node_before c.requires.passed.0 _ c.loop-i.i _ c.loop-i.invariant.0 c.requires.passed.1 c.loop-i-test.true (c.from-count.ensures ∙ c.view_count.ensures) in
     (c.requires.state_len, omega (arith, b.below, frame c.requires.passed.0))
 
 pub overflow_add-leaves : goal.overflow_add-leaves
 overflow_add-leaves c =
-    let b = node_before c.requires.passed.0 _ c.loop-i.i _ c.loop-i.invariant.0 c.requires.passed.1 c.loop-i-test.true c.view_count-count.ensures in
+    let b = node_before c.requires.passed.0 _ c.loop-i.i _ c.loop-i.invariant.0 c.requires.passed.1 c.loop-i-test.true (c.from-count.ensures ∙ c.view_count.ensures) in
     let more =
     leaves-from-more c.args.policy.now _ c.args.n c.loop-i.leaves c.loop-i.i _ _ (omega arith) c.loop-i.invariant.4 c.saved_status.ensures
-    (c.one_if_running-leaves.ensures ∙ leaf-adds b.counted_here _ c.if-count-gt0.true) in
-    omega (arith, c.requires.passed.1, frame c.requires.passed.0, leaves-from-few _ _ _ (c.loop-i.leaves + c.one_if_running-leaves.result) (c.loop-i.i - 1) more)
+    (c.from-leaves.ensures ∙ runs-one _ ∙ leaf-adds b.counted_here _ c.if-count-gt0.true) in
+    omega (arith, c.requires.passed.1, frame c.requires.passed.0, leaves-from-few _ _ _ (c.loop-i.leaves + c.from-leaves.result) (c.loop-i.i - 1) more)
 
 pub loop-i-preserved-then-count-gt0 : goal.loop-i-preserved-then-count-gt0
 loop-i-preserved-then-count-gt0 c =
-    let b = node_before c.requires.passed.0 _ c.loop-i.i _ c.loop-i.invariant.0 c.requires.passed.1 c.loop-i-test.true c.view_count-count.ensures in (
+    let b = node_before c.requires.passed.0 _ c.loop-i.i _ c.loop-i.invariant.0 c.requires.passed.1 c.loop-i-test.true (c.from-count.ensures ∙ c.view_count.ensures) in (
       omega (arith, c.loop-i.invariant.0),
       omega (arith, b.back, c.loop-i.invariant.1),
       simp length-set c.loop-i.invariant.2,
       known_more _ _ _ c.loop-i.fit c.loop-i.i _ (omega arith) (omega (arith, b.below, frame c.requires.passed.0, c.loop-i.invariant.2)) c.loop-i.invariant.3 c.node_fits.ensures,
       leaves-from-more _ _ _ c.loop-i.leaves c.loop-i.i _ _ (omega arith) c.loop-i.invariant.4 c.saved_status.ensures
-          (c.one_if_running-leaves.ensures ∙ leaf-adds b.counted_here _ c.if-count-gt0.true),
+          (c.from-leaves.ensures ∙ runs-one _ ∙ leaf-adds b.counted_here _ c.if-count-gt0.true),
     )
 
 -- a node that is no leaf adds nothing
 pub loop-i-preserved : goal.loop-i-preserved
 loop-i-preserved c =
-    let b = node_before c.requires.passed.0 _ c.loop-i.i _ c.loop-i.invariant.0 c.requires.passed.1 c.loop-i-test.true c.view_count-count.ensures in (
+    let b = node_before c.requires.passed.0 _ c.loop-i.i _ c.loop-i.invariant.0 c.requires.passed.1 c.loop-i-test.true (c.from-count.ensures ∙ c.view_count.ensures) in (
       omega (arith, c.loop-i.invariant.0),
       omega (arith, b.back, c.loop-i.invariant.1),
       simp length-set c.loop-i.invariant.2,

@@ -16,6 +16,3 @@ invariant-loop-i l =
     × (length l.fit ≡ 31)
     × Known l.policy (cells l.state) l.n l.fit l.i
     × LeavesFrom l.policy (cells l.state) l.n l.leaves l.i
-
-abbrev pub decreases-loop-i : goal.decreases-loop-i
-decreases-loop-i l = l.i

@@ -1,8 +1,5 @@
 -- `broken12` meets its contract.
 use native.Mathlib.Omega.{arith}
-use mathlib.Core.Path.{ap}
-use mathlib.Core.Bool.{not}
-use Rattle.spec_turns.specs.Entries.{broken12}
 use Rattle.turn_tables.proofs.FileNodes.{room}
 use Rattle.call_refusals.proofs.broken12.Goals as goal
 
@@ -14,7 +11,3 @@ steps_of-requires c = let r = room c.requires.0 in omega arith
 
 pub fits-requires : goal.fits-requires
 fits-requires c = record { passed = (c.requires.0, c.nodes_of.ensures.0, c.steps_of.ensures.0); state_len = c.requires.1 }
-
-pub returns : goal.returns
-unfolding broken12
-returns c = ap not c.fits.ensures

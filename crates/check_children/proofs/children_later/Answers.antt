@@ -1,12 +1,14 @@
 -- `children_later` meets its contract: a pair's two children, and no child of any other node.
 use mathlib.Core.Path.{sym}
-use borrow.Enum.Refused.{opened}
 use Rattle.spec_policy.specs.Records.{node_at}
-use Rattle.check_children.proofs.Counted.{later-pair, no-pair}
+use Rattle.check_children.specs.Pair.{pair_of}
+use Rattle.check_children.proofs.Counted.{later-pair, later-none}
 use Rattle.check_children.proofs.children_later.Goals as goal
 
-pub returns-in-Pair : goal.returns-in-Pair
-returns-in-Pair c = sym (later-pair c.args.n c.args.i (node_at _ _) c.in-Pair.is c.node_kind-kind.ensures c.node_left-left.ensures c.node_right-right.ensures)
+pub returns-in-Some : goal.returns-in-Some
+unfolding pair_of
+returns-in-Some c = sym (later-pair _ _ (node_at _ _) c.in-Some.ensures)
 
-pub returns-in_default : goal.returns-in_default
-returns-in_default c = sym (no-pair c.args.n c.args.i (node_at _ _) _ (opened c.in_default.in_default-own.keys2) c.node_kind-kind.ensures).0
+pub returns-in-None : goal.returns-in-None
+unfolding pair_of
+returns-in-None c = sym (later-none _ _ (node_at _ _) c.in-None.ensures)

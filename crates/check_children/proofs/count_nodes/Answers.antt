@@ -3,7 +3,6 @@ use mathlib.Core.Path.{◌≡◌, sym, ap}
 use mathlib.Core.Bool.{true}
 use native.Mathlib.Omega.{arith}
 use borrow.Author.Rules.{rules}
-use borrow.Author.Tests.{not-true, not-false}
 use Rattle.actions.proofs.Tests.{of-yes}
 use Rattle.spec_policy.specs.Records.{node_at, node_place}
 use Rattle.spec_check.proofs.Numbers.{kids}
@@ -21,14 +20,14 @@ pub returns-then-not-count_node : goal.returns-then-not-count_node
 returns-then-not-count_node c =
     record {
       value = sym (counting-no _ _ _ _ c.loop-i.invariant.1.1 (ap (node_at _) c.node_place.ensures) c.loop-i-test.true
-          c.count_node.ensures.value (not-true _ c.if-not-count_node.true-raw));
+          c.count_node.ensures.value c.if-not-count_node.true);
       k_after = λ t. absurd t;
     }
 
 pub loop-i-preserved : goal.loop-i-preserved
 unfolding kids
 loop-i-preserved c =
-    let yes : c.count_node.result ≡ true = not-false _ c.if-not-count_node.false-raw in (
+    let yes : c.count_node.result ≡ true = c.if-not-count_node.false in (
       omega arith,
       (
         search rules,

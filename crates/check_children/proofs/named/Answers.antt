@@ -24,15 +24,12 @@ names-sum-requires c = omega (arith, c.loop-i-test.true, c.node_place.ensures)
 pub overflow_add-sum : goal.overflow_add-sum
 overflow_add-sum c = omega (arith, c.loop-i.invariant.few, c.loop-i-test.true, c.names-sum.ensures.1)
 
-pub overflow_add-i : goal.overflow_add-i
-overflow_add-i c = omega (arith, c.loop-i-test.true)
-
 pub loop-i-preserved : goal.loop-i-preserved
 unfolding kids
 loop-i-preserved c =
     naming-next _ _ _ c.loop-i.sum c.loop-i.i c.names-sum.result c.loop-i-test.true c.loop-i.invariant
-    (c.names-sum.ensures.0 ∙ ap (λ (p : ℕ). kids c.args.k (node_at c.args.policy.now p)) c.node_place.ensures) c.names-sum.ensures.1
+    (c.names-sum.ensures.0 ∙ ap (λ (p : ℕ). kids c.args.k (node_at c.args.file.policy.now p)) c.node_place.ensures) c.names-sum.ensures.1
 
 pub returns : goal.returns
 unfolding node_place
-returns c = naming-end _ _ _ _ c.loop-i.i c.loop-i-test.false c.loop-i.invariant ∙ ap (λ (xs : List Node). occurs c.args.k (children xs)) (sym (node-list c.requires))
+returns c = naming-end _ _ _ _ c.loop-i.i c.loop-i-test.false c.loop-i.invariant ∙ ap (λ (xs : List Node). occurs c.args.k (children xs)) (sym (node-list c.args.file.framed))

@@ -4,7 +4,6 @@ use Prim.Native.Nat.{ℕ}
 use mathlib.Core.Path.{◌≡◌, sym, ap, ◌∙◌}
 use mathlib.Core.Bool.{Bool, ◌&&◌, ◌||◌}
 use lib.Dec.{eqb}
-use borrow.Author.Tests.{not-true, not-false}
 use Rattle.spec_policy.specs.Bytes.{Bytes}
 use Rattle.spec_policy.specs.Lists.{listed, occurs}
 use Rattle.spec_policy.specs.Records.{node_at, node_place, nodes}
@@ -47,17 +46,14 @@ pub returns-then-not-later-once : goal.returns-then-not-later-once
 returns-then-not-later-once c =
     c.on_record.ensures
     ∙ found _ _ _ c.loop-i.i c.loop-i-test.true c.loop-i.invariant
-    (asked _ _ _ _ _ _ c.node_place.ensures c.children_later-later.ensures c.named.ensures ∙ not-true _ c.if-not-later-once.true-raw)
-    ∙ all-nodes c.requires
-
-pub overflow_add-i : goal.overflow_add-i
-overflow_add-i c = omega (arith, c.loop-i-test.true)
+    (asked _ _ _ _ _ _ c.node_place.ensures c.children_later-later.ensures c.named.ensures ∙ c.if-not-later-once.true)
+    ∙ all-nodes c.args.file.framed
 
 pub loop-i-preserved : goal.loop-i-preserved
 loop-i-preserved c =
     passed _ _ _ c.loop-i.i c.loop-i-test.true c.loop-i.invariant
-    (asked _ _ _ _ _ _ c.node_place.ensures c.children_later-later.ensures c.named.ensures ∙ not-false _ c.if-not-later-once.false-raw)
+    (asked _ _ _ _ _ _ c.node_place.ensures c.children_later-later.ensures c.named.ensures ∙ c.if-not-later-once.false)
 
 pub returns : goal.returns
 unfolding spot_of
-returns c = none _ _ _ c.loop-i.i c.loop-i-test.false c.loop-i.invariant ∙ all-nodes c.requires
+returns c = none _ _ _ c.loop-i.i c.loop-i-test.false c.loop-i.invariant ∙ all-nodes c.args.file.framed

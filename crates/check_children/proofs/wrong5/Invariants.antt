@@ -1,4 +1,4 @@
-use Prim.Native.Nat.{ℕ, ◌-◌}
+use Prim.Native.Nat.{ℕ}
 use mathlib.Core.Bool.{Bool, ◌&&◌}
 use Rattle.spec_policy.specs.Bytes.{Bytes}
 use Rattle.spec_policy.specs.Records.{Node, node_at, node_place, nodes}
@@ -13,7 +13,4 @@ abbrev pub test : Bytes → ℕ → ℕ → Node → Bool
 test file n i x = later n i x && one_parent (nodes file) i
 
 abbrev pub invariant-loop-i : goal.invariant-loop-i
-invariant-loop-i l = Looking (test l.policy l.n) (node_of l.policy) l.n l.i
-
-abbrev pub decreases-loop-i : goal.decreases-loop-i
-decreases-loop-i l = l.n - l.i
+invariant-loop-i l = Looking (test l.file.policy.now l.file.n) (node_of l.file.policy.now) l.file.n l.i

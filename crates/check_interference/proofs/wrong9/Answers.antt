@@ -8,61 +8,49 @@ use Rattle.check_interference.specs.Sets.{RegulatedFrom, EffectsFrom}
 use Rattle.check_interference.proofs.TreeSets.{filled-as, filled_none, filled_more, held-as, held-less, crossed_from, crossed-none, crossed-found, crossed-kept, crossed-all}
 use Rattle.check_interference.proofs.wrong9.Goals as goal
 
--- in a turn i goes down by 1: by its other name, i is the node after that
+-- a turn is of the node before i: by its other name, i is the node after that
 up : (i : ℕ) → 0 < i → i ≡ i - 1 + 1
 up i h = omega arith
 
 pub loop-i-init : goal.loop-i-init
 unfolding spot_of
 loop-i-init c =
-    (omega arith, filled_none _ c.requires.regulated_len, filled_none _ c.requires.leaf_values.room, c.requires.leaf_values, crossed-none _ _)
+    (filled_none _ c.requires.regulated_len, filled_none _ c.requires.leaf_values.room, c.requires.leaf_values, crossed-none _ _)
 
 pub node_sets-sets-requires : goal.node_sets-sets-requires
 node_sets-sets-requires c =
     let u = up c.loop-i.i c.loop-i-test.true in
     record {
       treed = c.requires.treed;
-      i_lt_n = omega (arith, c.loop-i.invariant.0, c.loop-i-test.true);
-      leaf_values = held-as u c.loop-i.invariant.3;
-      regulated_from = filled-as u c.loop-i.invariant.1;
-      effects_from = filled-as u c.loop-i.invariant.2;
+      i_lt_n = omega arith;
+      leaf_values = held-as u c.loop-i.invariant.2;
+      regulated_from = filled-as u c.loop-i.invariant.0;
+      effects_from = filled-as u c.loop-i.invariant.1;
     }
-
-pub bounds-regulated-i : goal.bounds-regulated-i
-bounds-regulated-i c =
-    let f = c.requires.treed.frame in omega (arith, c.loop-i.invariant.0, c.loop-i-test.true, c.loop-i.invariant.1.room)
-
-pub bounds-effects-i : goal.bounds-effects-i
-bounds-effects-i c =
-    let f = c.requires.treed.frame in omega (arith, c.loop-i.invariant.0, c.loop-i-test.true, c.loop-i.invariant.2.room)
 
 pub loop-i-preserved-then-sets : goal.loop-i-preserved-then-sets
 loop-i-preserved-then-sets c =
     let u = up c.loop-i.i c.loop-i-test.true in
     let f = c.requires.treed.frame in
-    let below : c.loop-i.i - 1 < c.args.n = omega (arith, c.loop-i.invariant.0, c.loop-i-test.true) in
-    let regulates : RegulatedFrom c.args.policy.now (c.loop-i.i - 1) c.args.n (set c.loop-i.regulated (c.loop-i.i - 1) c.node_sets-sets.result.regulated.bits) =
-    filled_more below f.few-nodes (filled-as u c.loop-i.invariant.1) c.node_sets-sets.ensures.bits_value in
-    let affects : EffectsFrom c.args.policy.now (c.loop-i.i - 1) c.args.n (set c.loop-i.effects (c.loop-i.i - 1) c.node_sets-sets.result.effects.bits) =
-    filled_more below f.few-nodes (filled-as u c.loop-i.invariant.2) c.node_sets-sets.ensures.bits_value_2 in
-    (omega (arith, below), regulates, affects, held-less _ (held-as u c.loop-i.invariant.3), c.on_record-found.ensures ∙ crossed-found _ _ below c.node_sets-sets.ensures.crossed_value c.if-sets.true)
+    let below : c.loop-i.i - 1 < c.args.file.n = omega arith in
+    let regulates : RegulatedFrom c.args.file.policy.now (c.loop-i.i - 1) c.args.file.n (set c.loop-i.regulated (c.loop-i.i - 1) c.node_sets-sets.result.regulated.bits) =
+    filled_more below f.few-nodes (filled-as u c.loop-i.invariant.0) c.node_sets-sets.ensures.bits_value in
+    let affects : EffectsFrom c.args.file.policy.now (c.loop-i.i - 1) c.args.file.n (set c.loop-i.effects (c.loop-i.i - 1) c.node_sets-sets.result.effects.bits) =
+    filled_more below f.few-nodes (filled-as u c.loop-i.invariant.1) c.node_sets-sets.ensures.bits_value_2 in
+    (regulates, affects, held-less _ (held-as u c.loop-i.invariant.2), c.on_record-found.ensures ∙ crossed-found _ _ below c.node_sets-sets.ensures.crossed_value c.if-sets.true)
 
 pub loop-i-preserved : goal.loop-i-preserved
 loop-i-preserved c =
     let u = up c.loop-i.i c.loop-i-test.true in
     let f = c.requires.treed.frame in
-    let below : c.loop-i.i - 1 < c.args.n = omega (arith, c.loop-i.invariant.0, c.loop-i-test.true) in
-    let regulates : RegulatedFrom c.args.policy.now (c.loop-i.i - 1) c.args.n (set c.loop-i.regulated (c.loop-i.i - 1) c.node_sets-sets.result.regulated.bits) =
-    filled_more below f.few-nodes (filled-as u c.loop-i.invariant.1) c.node_sets-sets.ensures.bits_value in
-    let affects : EffectsFrom c.args.policy.now (c.loop-i.i - 1) c.args.n (set c.loop-i.effects (c.loop-i.i - 1) c.node_sets-sets.result.effects.bits) =
-    filled_more below f.few-nodes (filled-as u c.loop-i.invariant.2) c.node_sets-sets.ensures.bits_value_2 in
-    (omega (arith, below), regulates, affects, held-less _ (held-as u c.loop-i.invariant.3), c.loop-i.invariant.4 ∙ ap (crossed_from _ _) u ∙ crossed-kept _ _ below c.node_sets-sets.ensures.crossed_value c.if-sets.false)
+    let below : c.loop-i.i - 1 < c.args.file.n = omega arith in
+    let regulates : RegulatedFrom c.args.file.policy.now (c.loop-i.i - 1) c.args.file.n (set c.loop-i.regulated (c.loop-i.i - 1) c.node_sets-sets.result.regulated.bits) =
+    filled_more below f.few-nodes (filled-as u c.loop-i.invariant.0) c.node_sets-sets.ensures.bits_value in
+    let affects : EffectsFrom c.args.file.policy.now (c.loop-i.i - 1) c.args.file.n (set c.loop-i.effects (c.loop-i.i - 1) c.node_sets-sets.result.effects.bits) =
+    filled_more below f.few-nodes (filled-as u c.loop-i.invariant.1) c.node_sets-sets.ensures.bits_value_2 in
+    (regulates, affects, held-less _ (held-as u c.loop-i.invariant.2), c.loop-i.invariant.3 ∙ ap (crossed_from _ _) u ∙ crossed-kept _ _ below c.node_sets-sets.ensures.crossed_value c.if-sets.false)
 
-pub returns : goal.returns
-returns c =
+pub returns-clause-result_value : goal.returns-clause-result_value
+returns-clause-result_value c =
     let z : c.loop-i.i ≡ 0 = omega arith in
-    record {
-      result_value = c.loop-i.invariant.4 ∙ ap (crossed_from _ _) z ∙ crossed-all c.requires.treed.frame;
-      regulated_from = filled-as z c.loop-i.invariant.1;
-      effects_from = filled-as z c.loop-i.invariant.2;
-    }
+    c.loop-i.invariant.3 ∙ ap (crossed_from _ _) z ∙ crossed-all c.requires.treed.frame

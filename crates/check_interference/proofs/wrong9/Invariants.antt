@@ -1,5 +1,4 @@
 -- The nodes from i on have their sets, the leaves before i their effect sets, and the first of the nodes from i on whose sides interfere is found.
-use Prim.Native.Nat.{◌≤◌}
 use mathlib.Core.Path.{◌≡◌}
 use Rattle.spec_check.specs.Interference.{leaf_effects}
 use Rattle.faults.specs.Meaning.{spot_of}
@@ -10,8 +9,5 @@ use Rattle.check_interference.proofs.wrong9.Given as goal
 
 abbrev pub invariant-loop-i : goal.invariant-loop-i
 invariant-loop-i l =
-    (l.i ≤ l.n) × RegulatedFrom l.policy l.i l.n l.regulated × EffectsFrom l.policy l.i l.n l.effects × LeafValues leaf_effects l.policy l.i l.effects
-    × (spot_of l.found ≡ crossed_from l.policy l.n l.i)
-
-abbrev pub decreases-loop-i : goal.decreases-loop-i
-decreases-loop-i l = l.i
+    RegulatedFrom l.file.policy.now l.i l.file.n l.regulated × EffectsFrom l.file.policy.now l.i l.file.n l.effects × LeafValues leaf_effects l.file.policy.now l.i l.effects
+    × (spot_of l.found ≡ crossed_from l.file.policy.now l.file.n l.i)

@@ -1,5 +1,5 @@
 -- `unfit_node` meets its contract: the loop carries along what is left of the search.
-use borrow.Author.Tests.{not-true, not-false}
+
 use native.Mathlib.Omega.{arith}
 use Prim.Native.Nat.{ℕ}
 use mathlib.Core.Path.{◌≡◌, sym, ap, ◌∙◌}
@@ -33,13 +33,13 @@ node_fits-requires c = omega (arith, c.node_place.ensures)
 pub returns-then-not-node_fits : goal.returns-then-not-node_fits
 returns-then-not-node_fits c =
     c.on_record.ensures
-    ∙ one_found numbered (node_of _) 0 _ c.loop-i.i c.loop-i.i (omega arith) c.loop-i-test.true c.loop-i.invariant (tested _ _ _ _ c.node_place.ensures c.node_fits.ensures ∙ not-true _ c.if-not-node_fits.true-raw)
+    ∙ one_found numbered (node_of _) 0 _ c.loop-i.i c.loop-i.i (omega arith) (omega arith) c.loop-i.invariant (tested _ _ _ _ c.node_place.ensures c.node_fits.ensures ∙ c.if-not-node_fits.true)
     ∙ all-nodes _ _ c.requires.0
 
 pub loop-i-preserved : goal.loop-i-preserved
 loop-i-preserved c =
-    one_less numbered (node_of _) 0 _ c.loop-i.i c.loop-i-test.true c.loop-i.invariant (tested _ _ _ _ c.node_place.ensures c.node_fits.ensures ∙ not-false _ c.if-not-node_fits.false-raw)
+    one_less numbered (node_of _) 0 _ c.loop-i.i (omega arith) c.loop-i.invariant (tested _ _ _ _ c.node_place.ensures c.node_fits.ensures ∙ c.if-not-node_fits.false)
 
 pub returns : goal.returns
 unfolding spot_of
-returns c = none_left numbered (node_of _) 0 _ c.loop-i.i c.loop-i-test.false c.loop-i.invariant ∙ all-nodes _ _ c.requires.0
+returns c = none_left numbered (node_of _) 0 _ c.loop-i.i (omega arith) c.loop-i.invariant ∙ all-nodes _ _ c.requires.0

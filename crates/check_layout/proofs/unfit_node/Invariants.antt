@@ -1,4 +1,4 @@
-use Prim.Native.Nat.{ℕ, ◌-◌}
+use Prim.Native.Nat.{ℕ}
 use mathlib.Core.Bool.{Bool}
 use Rattle.spec_policy.specs.Bytes.{Bytes}
 use Rattle.spec_policy.specs.Records.{Node, node_at, node_place}
@@ -18,6 +18,3 @@ node_of file i = node_at file (node_place i)
 
 abbrev pub invariant-loop-i : goal.invariant-loop-i
 invariant-loop-i l = Left numbered (node_of l.policy) 0 l.n l.i
-
-abbrev pub decreases-loop-i : goal.decreases-loop-i
-decreases-loop-i l = l.n - l.i

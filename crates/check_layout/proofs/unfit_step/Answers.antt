@@ -1,5 +1,5 @@
 -- `unfit_step` meets its contract: the loop carries along what is left of the search.
-use borrow.Author.Tests.{not-true, not-false}
+
 use native.Mathlib.Omega.{arith}
 use mathlib.Core.Path.{refl, sym, ◌∙◌}
 use Rattle.spec_policy.specs.Records.{node_place}
@@ -23,14 +23,14 @@ step_fits-requires c = omega (arith, c.node_place-at.ensures)
 pub returns-then-not-step_fits : goal.returns-then-not-step_fits
 returns-then-not-step_fits c =
     c.on_record.ensures
-    ∙ one_found numbered (record-of _ _) _ _ c.loop-i.i _ refl c.loop-i-test.true c.loop-i.invariant (sym c.step_fits.ensures ∙ not-true _ c.if-not-step_fits.true-raw)
-    ∙ step-list _ c.requires _ c.node_place-at.ensures
+    ∙ one_found numbered (record-of _ _) _ _ c.loop-i.i _ refl (omega arith) c.loop-i.invariant (sym c.step_fits.ensures ∙ c.if-not-step_fits.true)
+    ∙ step-list _ c.args.file.framed _ c.node_place-at.ensures
 
 pub loop-i-preserved : goal.loop-i-preserved
-loop-i-preserved c = one_less numbered (record-of _ _) _ _ c.loop-i.i c.loop-i-test.true c.loop-i.invariant (sym c.step_fits.ensures ∙ not-false _ c.if-not-step_fits.false-raw)
+loop-i-preserved c = one_less numbered (record-of _ _) _ _ c.loop-i.i (omega arith) c.loop-i.invariant (sym c.step_fits.ensures ∙ c.if-not-step_fits.false)
 
 pub returns : goal.returns
 unfolding spot_of
 returns c =
-    none_left numbered (record-of _ _) _ _ c.loop-i.i c.loop-i-test.false c.loop-i.invariant
-    ∙ step-list _ c.requires _ c.node_place-at.ensures
+    none_left numbered (record-of _ _) _ _ c.loop-i.i (omega arith) c.loop-i.invariant
+    ∙ step-list _ c.args.file.framed _ c.node_place-at.ensures

@@ -1,4 +1,4 @@
-use Prim.Native.Nat.{ℕ, ◌+◌, ◌*◌, ◌-◌}
+use Prim.Native.Nat.{ℕ, ◌+◌, ◌*◌}
 use mathlib.Core.Bool.{Bool}
 use Rattle.spec_policy.specs.Bytes.{Bytes}
 use Rattle.spec_policy.specs.Records.{StepRecord, step_record_at}
@@ -13,7 +13,4 @@ abbrev pub record-of : Bytes → ℕ → ℕ → StepRecord
 record-of file at i = step_record_at file (at + 12 * i)
 
 abbrev pub invariant-loop-i : goal.invariant-loop-i
-invariant-loop-i l = Left numbered (record-of l.policy l.at) l.n l.m l.i
-
-abbrev pub decreases-loop-i : goal.decreases-loop-i
-decreases-loop-i l = l.m - l.i
+invariant-loop-i l = Left numbered (record-of l.file.policy.now l.at) l.file.n l.file.m l.i

@@ -5,4 +5,4 @@ use Rattle.check_leaf.proofs.begun.Goals as goal
 
 pub returns : goal.returns
 unfolding EMPTY
-returns c = record { targets = refl; modes = refl; taken = refl; marks = c.first_mark-marks.ensures; nexts = refl; effects = refl; inserts = refl }
+returns c = record { modes = refl; taken = refl; marks = c.first_mark.ensures; nexts = refl; effects = refl; inserts = refl }

@@ -1,11 +1,8 @@
 -- The sum is what the nodes before i own, at most 64 each.
-use Prim.Native.Nat.{◌*◌, ◌≤◌, ◌-◌}
+use Prim.Native.Nat.{◌*◌, ◌≤◌}
 use mathlib.Core.Path.{◌≡◌}
 use Rattle.spec_policy.specs.Tree.{first_step}
 use Rattle.check_leaves.proofs.all_owned.Given as goal
 
 abbrev pub invariant-loop-i : goal.invariant-loop-i
-invariant-loop-i l = (l.i ≤ l.n) × (l.sum ≡ first_step l.policy l.i) × (l.sum ≤ 64 * l.i)
-
-abbrev pub decreases-loop-i : goal.decreases-loop-i
-decreases-loop-i l = l.n - l.i
+invariant-loop-i l = (l.i ≤ l.file.n) × (l.sum ≡ first_step l.file.policy.now l.i) × (l.sum ≤ 64 * l.i)

@@ -1,5 +1,5 @@
 -- What is found of the nodes before node i, with what is left.
-use Prim.Native.Nat.{ℕ, ◌-◌}
+use Prim.Native.Nat.{ℕ}
 use mathlib.Core.Path.{◌≡◌}
 use mathlib.Core.Bool.{Bool, true}
 use mathlib.Core.List.{List, map}
@@ -20,7 +20,4 @@ pub record Known (policy : Bytes) (n m i at : ℕ) (effects inserts : List ℕ) 
   pub so_far : Walking frame fits all i at effects inserts modes taken
 
 abbrev pub invariant-loop-i : goal.invariant-loop-i
-invariant-loop-i l = Known l.policy l.n l.m l.i l.at l.effects l.inserts l.modes l.taken
-
-abbrev pub decreases-loop-i : goal.decreases-loop-i
-decreases-loop-i l = l.n - l.i
+invariant-loop-i l = Known l.file.policy.now l.file.n l.file.m l.i l.at l.effects l.inserts l.modes l.taken

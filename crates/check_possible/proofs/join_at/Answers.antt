@@ -7,4 +7,4 @@ use Rattle.check_possible.proofs.join_at.Goals as goal
 
 pub returns : goal.returns
 unfolding join_at EMPTY
-returns c = ap (set c.args.sets.now c.args.o) c.union-joined.ensures
+returns c = ap (set c.args.sets.now c.args.o) c.union.ensures

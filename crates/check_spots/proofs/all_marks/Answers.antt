@@ -8,16 +8,7 @@ use Rattle.check_spots.proofs.LeafLoops.{wider, marking-start, marking-next, mar
 use Rattle.check_spots.proofs.all_marks.Goals as goal
 
 pub loop-o-init : goal.loop-o-init
-loop-o-init c = (omega arith, marking-start _ _ _ _ c.first_mark-seen.ensures)
-
-pub overflow_mul-o : goal.overflow_mul-o
-overflow_mul-o c = omega (arith, c.loop-o-test.true)
-
-pub overflow_add-at : goal.overflow_add-at
-overflow_add-at c = omega (arith, c.loop-o-test.true)
-
-pub row_at-requires : goal.row_at-requires
-row_at-requires c = omega (arith, c.loop-o-test.true)
+loop-o-init c = marking-start _ _ _ _ c.first_mark-seen.ensures
 
 pub lead_all-seen-requires : goal.lead_all-seen-requires
 lead_all-seen-requires c = (
@@ -30,11 +21,8 @@ lead_all-seen-requires c = (
   },
 )
 
-pub overflow_add-o : goal.overflow_add-o
-overflow_add-o c = omega (arith, c.loop-o-test.true)
-
 pub loop-o-preserved : goal.loop-o-preserved
-loop-o-preserved c = (omega (arith, c.loop-o-test.true), marking-next _ _ _ c.loop-o.o c.loop-o.seen _ c.loop-o-test.true c.loop-o.invariant.1 (c.lead_all-seen.ensures _ c.loop-o.invariant.1.ks c.row_at.ensures.row c.loop-o.invariant.1.agrees))
+loop-o-preserved c = marking-next _ _ _ c.loop-o.o c.loop-o.seen _ c.loop-o-test.true c.loop-o.invariant (c.lead_all-seen.ensures _ c.loop-o.invariant.ks c.row_at.ensures.row c.loop-o.invariant.agrees)
 
 pub returns : goal.returns
-returns c = marking-end _ _ _ c.loop-o.o c.loop-o.seen c.loop-o-test.false c.loop-o.invariant.1
+returns c = marking-end _ _ _ c.loop-o.o c.loop-o.seen c.loop-o-test.false c.loop-o.invariant

@@ -8,17 +8,8 @@ use Rattle.check_spots.proofs.all_possible.Goals as goal
 pub loop-o-init : goal.loop-o-init
 loop-o-init c = passing-start _ _ _ _ _ refl (none-possible c.args.count c.requires.count_in_bounds.1)
 
-pub overflow_mul-o : goal.overflow_mul-o
-overflow_mul-o c = omega (arith, c.loop-o-test.true)
-
-pub overflow_add-at : goal.overflow_add-at
-overflow_add-at c = omega (arith, c.loop-o-test.true)
-
 pub pass_on-requires : goal.pass_on-requires
 pass_on-requires c = record { step_size_in_bounds = (omega arith, omega arith, c.loop-o.invariant.room); t = wider c.args.count 64 c.requires.count_in_bounds.1 _ (c.requires.targets_in c.loop-o.o c.loop-o-test.true) }
-
-pub overflow_add-o : goal.overflow_add-o
-overflow_add-o c = omega (arith, c.loop-o-test.true)
 
 pub loop-o-preserved : goal.loop-o-preserved
 loop-o-preserved c = passing-next _ _ _ _ c.requires.targets_in c.loop-o.o c.loop-o.sets _ c.loop-o-test.true c.loop-o.invariant c.pass_on.ensures

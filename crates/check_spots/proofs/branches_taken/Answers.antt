@@ -1,21 +1,21 @@
 -- `branches_taken` meets its contract: only a case is tested.
-use mathlib.Core.Path.{sym, ap, ◌∙◌}
+use mathlib.Core.Path.{ap, ◌∙◌}
 use mathlib.Core.Bool.{◌&&◌, not}
 use mathlib.Core.List.{[], ◌∷◌}
 use Rattle.actions.specs.Sets.{is_empty, common, difference}
-use Rattle.spec_policy.specs.Records.{step_record_at}
-use Rattle.spec_policy.specs.Steps.{Step, step_of}
+use Rattle.actions.specs.declared.ActionSet.{ActionSet}
+use Rattle.spec_policy.specs.Steps.{Step}
 use Rattle.spec_check.specs.Possible.{branches_taken}
-use Rattle.file_records.proofs.Rows.{of-kind}
-use Rattle.check_spots.proofs.ByKind.{others-taken}
+use Rattle.check_spots.proofs.ByKind.{asks, others-taken}
 use Rattle.check_spots.proofs.branches_taken.Goals as goal
 
-pub returns-then-byte-ne-ACASE : goal.returns-then-byte-ne-ACASE
-unfolding step_record_at
-returns-then-byte-ne-ACASE c = others-taken _ 0 (step_record_at _ _) (λ k. c.if-byte-ne-ACASE.true (c.byte.ensures ∙ k))
+pub returns-in-Acase : goal.returns-in-Acase
+unfolding branches_taken
+returns-in-Acase c =
+    let a = asks _ c.in-Acase.ensures in
+    let set = c.set_in-asked.ensures a.set a.operand in
+    (λ i. not ((c.is_empty.ensures ∙ ap is_empty (c.common.ensures ∙ ap (λ (s : ActionSet). common c.args.here.bits s.bits) set)) i) && not ((c.is_empty-in-Acase.ensures ∙ ap is_empty (c.difference.ensures ∙ ap (λ (s : ActionSet). difference c.args.here.bits s.bits) set)) i))
+    ∙ ap (λ (k : Step). branches_taken (c.args.here.bits ∷ []) 0 k) a.step
 
-pub returns : goal.returns
-unfolding step_of branches_taken
-returns c =
-    (λ i. not ((c.is_empty.ensures ∙ ap is_empty (c.common-common.ensures ∙ ap (common c.args.here.bits) c.word64.ensures)) i) && not ((c.is_empty-2.ensures ∙ ap is_empty (c.difference-rest.ensures ∙ ap (difference c.args.here.bits) c.word64.ensures)) i))
-    ∙ ap (λ (k : Step). branches_taken (c.args.here.bits ∷ []) 0 k) (of-kind _ _ 5 (sym c.if-byte-ne-ACASE.false ∙ c.byte.ensures))
+pub returns-in_default : goal.returns-in_default
+returns-in_default c = others-taken _ 0 _ c.step_at.ensures c.in_default.not-Acase

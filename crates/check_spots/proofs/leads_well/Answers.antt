@@ -1,66 +1,60 @@
 -- `leads_well` meets its contract: the targets of each kind, and the set of a case.
-use Prim.Native.Nat.{ℕ}
-use mathlib.Core.Path.{◌≡◌, sym, ap, ◌∙◌}
-use mathlib.Core.Bool.{Bool, ◌&&◌}
-use mathlib.Core.List.{List}
-use native.Mathlib.Omega.{arith}
-use Rattle.actions.specs.Sets.{ActionSet, within}
-use Rattle.spec_policy.specs.Bytes.{Bytes, number}
-use Rattle.spec_policy.specs.Records.{step_record_at}
-use Rattle.spec_policy.specs.Steps.{Step, step_of}
+use mathlib.Core.Path.{◌≡◌, ap, ◌∙◌}
+use mathlib.Core.Bool.{◌&&◌}
+use borrow.Author.Rules.{rules}
+use Rattle.actions.specs.Sets.{within}
+use Rattle.actions.specs.declared.ActionSet as read
+use Rattle.spec_policy.specs.Steps.{ins, acase, spend}
 use Rattle.spec_check.specs.Targets.{target_fits, leads_well}
-use Rattle.file_records.proofs.Rows.{step_record_with, of-kind}
+use Rattle.file_records.specs.Code.{code_at}
+use Rattle.file_records.specs.Kinds.{step_meant}
 use Rattle.check_targets.proofs.TargetLaws.{tested, tested-all}
-use Rattle.check_spots.proofs.ByKind.{others-lead}
+use Rattle.check_spots.proofs.ByKind.{well-of, ins-is, spend-is, asks, others-lead}
 use Rattle.check_spots.proofs.leads_well.Goals as goal
 
--- a target as the code has read it
-target-is : (code : List Step) (o : ℕ) {b : Bool} {t u : ℕ} → b ≡ target_fits code o t → t ≡ u → b ≡ target_fits code o u
-target-is code o e z = e ∙ ap (target_fits code o) z
+pub returns-in-Next : goal.returns-in-Next
+unfolding step_meant tested
+returns-in-Next c =
+    let first : c.fits.result ≡ target_fits (code_at c.args.policy.now c.args.at c.args.count) c.args.o c.in-Next.take = search rules in
+    let second : c.fits-in-Next.result ≡ target_fits (code_at c.args.policy.now c.args.at c.args.count) c.args.o c.in-Next.done = search rules in
+    (λ i. first i && second i) ∙ well-of _ _ _ _ c.in-Next.ensures
 
--- what is tested of a step of a known kind is the rule's test of the step that is read
-of-step : (set : ActionSet) (code : List Step) (file : Bytes) (o place k : ℕ) {kind : ℕ} → kind ≡ number file place 1 → kind ≡ k
-    → tested set code o (step_of (step_record_with file place k)) ≡ leads_well set code o (step_of (step_record_at file place))
-unfolding leads_well
-of-step set code file o place k r e = tested-all set code o _ ∙ ap (leads_well set code o) (of-kind _ _ k (sym e ∙ r))
+pub returns-in-Ok : goal.returns-in-Ok
+unfolding step_meant tested
+returns-in-Ok c =
+    let first : c.fits-in-Ok.result ≡ target_fits (code_at c.args.policy.now c.args.at c.args.count) c.args.o c.in-Ok.to = search rules in
+    first ∙ well-of _ _ _ _ c.in-Ok.ensures
 
-pub returns-in-1 : goal.returns-in-1
-unfolding step_of tested
-returns-in-1 c =
-    let first = target-is _ _ c.target_fits-first.ensures c.byte.ensures in
-    let second = target-is _ _ c.target_fits-second.ensures c.byte-2.ensures in
-    (λ i. first i && second i) ∙ of-step _ _ _ _ _ 1 c.byte-kind.ensures c.in-1.is
+pub returns-in-Sup : goal.returns-in-Sup
+unfolding step_meant tested
+returns-in-Sup c =
+    let first : c.fits-in-Sup.result ≡ target_fits (code_at c.args.policy.now c.args.at c.args.count) c.args.o c.in-Sup.to = search rules in
+    first ∙ well-of _ _ _ _ c.in-Sup.ensures
 
-pub returns-in-2 : goal.returns-in-2
-unfolding step_of tested
-returns-in-2 c =
-    target-is _ _ c.target_fits-first.ensures c.byte.ensures ∙ of-step _ _ _ _ _ 2 c.byte-kind.ensures c.in-2.is
+pub returns-in-Ins : goal.returns-in-Ins
+unfolding tested leads_well
+returns-in-Ins c =
+    let first : c.fits-in-Ins.result ≡ target_fits (code_at c.args.policy.now c.args.at c.args.count) c.args.o c.in-Ins.to = search rules in
+    let k = ins-is _ c.in-Ins.ensures in
+    first ∙ tested-all _ _ _ (ins k.0 _) ∙ ap (leads_well _ _ _) k.1
 
-pub returns-in-3 : goal.returns-in-3
-unfolding step_of tested
-returns-in-3 c =
-    target-is _ _ c.target_fits-first.ensures c.byte.ensures ∙ of-step _ _ _ _ _ 3 c.byte-kind.ensures c.in-3.is
+pub returns-in-Spend : goal.returns-in-Spend
+unfolding tested leads_well
+returns-in-Spend c =
+    let first : c.fits-in-Spend.result ≡ target_fits (code_at c.args.policy.now c.args.at c.args.count) c.args.o c.in-Spend.yes = search rules in
+    let second : c.fits-in-Spend-2.result ≡ target_fits (code_at c.args.policy.now c.args.at c.args.count) c.args.o c.in-Spend.otherwise = search rules in
+    let k = spend-is _ c.in-Spend.ensures in
+    (λ i. first i && second i) ∙ tested-all _ _ _ (spend k.0 _ _) ∙ ap (leads_well _ _ _) k.1
 
-pub returns-in-4 : goal.returns-in-4
-unfolding step_of tested
-returns-in-4 c =
-    target-is _ _ c.target_fits-first.ensures c.byte.ensures ∙ of-step _ _ _ _ _ 4 c.byte-kind.ensures c.in-4.is
-
-pub returns-in-5 : goal.returns-in-5
-unfolding step_of tested
-returns-in-5 c =
-    let first = target-is _ _ c.target_fits-first.ensures c.byte.ensures in
-    let second = target-is _ _ c.target_fits-second.ensures c.byte-2.ensures in
-    (λ i. (c.within.ensures ∙ ap (λ (s : ActionSet). within s c.args.set.bits) c.word64.ensures) i && (first i && second i)) ∙ of-step _ _ _ _ _ 5 c.byte-kind.ensures c.in-5.is
-
-pub returns-in-6 : goal.returns-in-6
-unfolding step_of tested
-returns-in-6 c =
-    let first = target-is _ _ c.target_fits-first.ensures c.byte.ensures in
-    let second = target-is _ _ c.target_fits-second.ensures c.byte-2.ensures in
-    (λ i. first i && second i) ∙ of-step _ _ _ _ _ 6 c.byte-kind.ensures c.in-6.is
+pub returns-in-Acase : goal.returns-in-Acase
+unfolding tested leads_well
+returns-in-Acase c =
+    let first : c.fits-in-Acase.result ≡ target_fits (code_at c.args.policy.now c.args.at c.args.count) c.args.o c.in-Acase.yes = search rules in
+    let second : c.fits-in-Acase-2.result ≡ target_fits (code_at c.args.policy.now c.args.at c.args.count) c.args.o c.in-Acase.otherwise = search rules in
+    let a = asks _ c.in-Acase.ensures in
+    let set = c.within.ensures ∙ ap (λ (s : read.ActionSet). within s.bits c.args.set.bits) (c.set_in.ensures a.set a.operand) in
+    (λ i. set i && (first i && second i)) ∙ tested-all _ _ _ (acase a.set.bits _ _) ∙ ap (leads_well _ _ _) a.step
 
 pub returns-in_default : goal.returns-in_default
-unfolding step_record_at
 returns-in_default c =
-    others-lead _ _ _ (step_record_at _ _) (λ k. omega (arith, k, c.byte-kind.ensures)) (λ k. omega (arith, k, c.byte-kind.ensures)) (λ k. omega (arith, k, c.byte-kind.ensures)) (λ k. omega (arith, k, c.byte-kind.ensures)) (λ k. omega (arith, k, c.byte-kind.ensures)) (λ k. omega (arith, k, c.byte-kind.ensures))
+    others-lead _ _ _ _ c.step_at.ensures c.in_default.not-Next c.in_default.not-Ok c.in_default.not-Sup c.in_default.not-Ins c.in_default.not-Acase c.in_default.not-Spend

@@ -1,13 +1,30 @@
 -- `wrong8` meets its contract: the leaves are asked, which keep rule 6.
+use native.Mathlib.Omega.{arith}
+use mathlib.Core.Path.{◌≡◌, sym}
+use borrow.Author.Rules.{rules}
+use Rattle.std.specs.Prelude.{Some}
 use Rattle.spec_check.specs.Possible.{wrong8}
-use Rattle.check_spots.specs.Leaf.{off_in, askable}
-use Rattle.check_spots.proofs.AllLeaves.{all-owned, all-lead}
+use Rattle.file_records.specs.Code.{code_at}
+use Rattle.file_records.proofs.CodeLaws.{code-length}
+use Rattle.faults.specs.Meaning.{spot_of}
+use Rattle.check_spots.specs.Leaf.{untaken_in}
+use Rattle.check_spots.proofs.AllLeaves.{all-owned, all-lead, leaf-targets, untaken-inside}
 use Rattle.check_spots.proofs.wrong8.Goals as goal
 
-pub first_in_leaves-requires : goal.first_in_leaves-requires
-unfolding askable
-first_in_leaves-requires c = record { framed = c.requires.framed; policy_value = c.requires.policy_value; policy_value_2 = all-owned c.requires.framed c.requires.policy_value_2; policy_value_3 = all-lead c.requires.framed c.requires.policy_value_2 }
+pub first_in_leaves-requires-clause-policy_value_2 : goal.first_in_leaves-requires-clause-policy_value_2
+first_in_leaves-requires-clause-policy_value_2 c = all-owned c.args.file.framed c.requires.policy_value_2
+
+pub first_in_leaves-requires-clause-may : goal.first_in_leaves-requires-clause-may
+first_in_leaves-requires-clause-may c at count set l =
+    let inside = leaf-targets (all-lead c.args.file.framed c.requires.policy_value_2) l in
+    search rules
+
+pub first_in_leaves-requires-clause-inside : goal.first_in_leaves-requires-clause-inside
+unfolding spot_of
+first_in_leaves-requires-clause-inside c at count o set p =
+    let found : spot_of (Some o) ≡ untaken_in set.bits (code_at c.args.file.policy.now at count) = search rules in
+    omega (arith, untaken-inside _ _ o (sym found), code-length c.args.file.policy.now at count)
 
 pub returns : goal.returns
-unfolding off_in wrong8
-returns c = c.first_in_leaves.ensures
+unfolding wrong8
+returns c = c.first_in_leaves.ensures (λ r code. untaken_in r code) (λ at count set r p. search rules)

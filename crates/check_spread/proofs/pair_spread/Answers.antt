@@ -4,24 +4,15 @@ use Rattle.file_records.specs.declared.Way.{Way}
 use Rattle.file_records.specs.Kinds.{way_of}
 use Rattle.spec_check.specs.Spread.{spread_of}
 use Rattle.check_spread.specs.Spreads.{cap}
-use Rattle.check_spread.proofs.SpreadLaws.{cap-low, cap-high}
+use Rattle.check_spread.proofs.SpreadLaws.{cap-min}
 use Rattle.check_spread.proofs.pair_spread.Goals.{in-Parallel, in-Sequential}
 use Rattle.check_spread.proofs.pair_spread.Goals as goal
 
-pub returns-then-spread-le-WIDEST : goal.returns-then-spread-le-WIDEST
+pub returns : goal.returns
 unfolding spread_of way_of
-returns-then-spread-le-WIDEST c =
+returns c =
     let spread-is : c.match-way.spread ≡ spread_of (way_of c.args.way) c.args.left c.args.right = elim c.match-way.branch [
       | in-Parallel w ↦ w.spread-is ∙ ap (λ (v : Way). spread_of (way_of v) c.args.left c.args.right) (sym w.in-Parallel.is)
       | in-Sequential w ↦ w.spread-is ∙ ap (λ (v : Way). spread_of (way_of v) c.args.left c.args.right) (sym w.in-Sequential.is)
     ] in
-    sym (cap-low _ c.if-spread-le-WIDEST.true) ∙ ap cap spread-is
-
-pub returns-else-spread-le-WIDEST : goal.returns-else-spread-le-WIDEST
-unfolding spread_of way_of
-returns-else-spread-le-WIDEST c =
-    let spread-is : c.match-way.spread ≡ spread_of (way_of c.args.way) c.args.left c.args.right = elim c.match-way.branch [
-      | in-Parallel w ↦ w.spread-is ∙ ap (λ (v : Way). spread_of (way_of v) c.args.left c.args.right) (sym w.in-Parallel.is)
-      | in-Sequential w ↦ w.spread-is ∙ ap (λ (v : Way). spread_of (way_of v) c.args.left c.args.right) (sym w.in-Sequential.is)
-    ] in
-    sym (cap-high _ c.if-spread-le-WIDEST.false) ∙ ap cap spread-is
+    c.min.ensures ∙ cap-min _ ∙ ap cap spread-is

@@ -1,5 +1,4 @@
 -- The nodes from i on have their spreads, the leaves before i the numbers of their ins steps, and the first of the nodes from i on that is too wide is found.
-use Prim.Native.Nat.{◌≤◌}
 use mathlib.Core.Path.{◌≡◌}
 use Rattle.faults.specs.Meaning.{spot_of}
 use Rattle.check_leaves.specs.Leaves.{inserts_in, LeafValues}
@@ -9,7 +8,4 @@ use Rattle.check_spread.proofs.wrong10.Given as goal
 
 abbrev pub invariant-loop-i : goal.invariant-loop-i
 invariant-loop-i l =
-    (l.i ≤ l.n) × LeafValues inserts_in l.policy l.i l.spreads × KeptFrom l.policy l.n l.i l.spreads × (spot_of l.found ≡ wide_from l.policy l.n l.i)
-
-abbrev pub decreases-loop-i : goal.decreases-loop-i
-decreases-loop-i l = l.i
+    LeafValues inserts_in l.file.policy.now l.i l.spreads × KeptFrom l.file.policy.now l.file.n l.i l.spreads × (spot_of l.found ≡ wide_from l.file.policy.now l.file.n l.i)

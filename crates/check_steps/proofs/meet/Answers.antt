@@ -7,15 +7,15 @@ use Rattle.check_steps.proofs.meet.Goals as goal
 
 pub returns-in-Next : goal.returns-in-Next
 unfolding step_meant
-returns-in-Next c = of-meant _ _ _ _ _ _ _ (ap step_meant c.in-Next.is) c.next_step.ensures
+returns-in-Next c = of-meant _ _ _ _ _ _ _ (ap step_meant c.in-Next.is) (rw (c.from.ensures, c.from-in-Next.ensures) at c.next_step.ensures)
 
 pub returns-in-Ok : goal.returns-in-Ok
 unfolding step_meant
-returns-in-Ok c = of-meant _ _ _ _ _ _ _ (ap step_meant c.in-Ok.is) (c.ok_step.ensures _ _)
+returns-in-Ok c = of-meant _ _ _ _ _ _ _ (ap step_meant c.in-Ok.is) (rw c.from-in-Ok.ensures at (c.ok_step.ensures c.args.set.bits c.args.sets.now))
 
 pub returns-in-Sup : goal.returns-in-Sup
 unfolding step_meant EMPTY
-returns-in-Sup c = of-meant _ _ _ _ _ _ _ (ap step_meant c.in-Sup.is) (c.sup_step.ensures _ _ refl)
+returns-in-Sup c = of-meant _ _ _ _ _ _ _ (ap step_meant c.in-Sup.is) (rw c.from-in-Sup.ensures at (c.sup_step.ensures c.args.set.bits c.args.sets.now refl))
 
 pub returns-in-Ins : goal.returns-in-Ins
 unfolding step_meant

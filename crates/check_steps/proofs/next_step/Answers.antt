@@ -2,7 +2,6 @@
 use native.Mathlib.Omega.{arith}
 use mathlib.Core.Path.{refl, sym, ap₂, ◌∙◌}
 use mathlib.Core.Bool.{Bool, ◌&&◌}
-use borrow.Author.Tests.{not-true, not-false}
 use Rattle.actions.specs.Sets.{EMPTY, union}
 use Rattle.actions.proofs.Tests.{and-true}
 use Rattle.actions.proofs.SetLaws.{union-end}
@@ -20,31 +19,30 @@ only_bit-requires c = omega (arith, c.requires)
 
 pub returns-then-not-target_fits : goal.returns-then-not-target_fits
 unfolding tested is_next union
-returns-then-not-target_fits c code ks st = stray-met c.stray.ensures (off-left (target_fits code c.args.o c.args.take) (target_fits code c.args.o c.args.done) (sym (c.target_fits.ensures.value code st.size (next_past st refl _ c.only_bit.ensures)) ∙ not-true _ c.if-not-target_fits.true-raw))
+returns-then-not-target_fits c code ks st = stray-met code _ _ _ (off-left (target_fits code c.args.o c.args.take) (target_fits code c.args.o c.args.done) (sym (c.target_fits.ensures.value code st.size (next_past st refl _ c.only_bit.ensures)) ∙ c.if-not-target_fits.true))
 
 pub returns-then-not-target_fits-2 : goal.returns-then-not-target_fits-2
 unfolding tested is_next union
-returns-then-not-target_fits-2 c code ks st = stray-met c.stray-then-not-target_fits-2.ensures (off-right (target_fits code c.args.o c.args.take) (target_fits code c.args.o c.args.done) (sym (c.target_fits-2.ensures.value code st.size (next_past st refl _ c.only_bit.ensures)) ∙ not-true _ c.if-not-target_fits-2.true-raw))
+returns-then-not-target_fits-2 c code ks st = stray-met code _ _ _ (off-right (target_fits code c.args.o c.args.take) (target_fits code c.args.o c.args.done) (sym (c.target_fits-2.ensures.value code st.size (next_past st refl _ c.only_bit.ensures)) ∙ c.if-not-target_fits-2.true))
 
 pub join_at-requires : goal.join_at-requires
-join_at-requires c = let l = c.target_fits.ensures.t_lt_count (not-false _ c.if-not-target_fits.false-raw) in (omega (arith, l, c.requires), c.requires.1)
+join_at-requires c = let l = c.target_fits.ensures.t_lt_count (c.if-not-target_fits.false) in (omega (arith, l, c.requires), c.requires.1)
 
-pub lead_next-marks-requires : goal.lead_next-marks-requires
-lead_next-marks-requires c = let l = c.target_fits.ensures.t_lt_count (not-false _ c.if-not-target_fits.false-raw) in let k = c.target_fits-2.ensures.t_lt_count (not-false _ c.if-not-target_fits-2.false-raw) in (omega (arith, c.requires), omega (arith, l, c.requires), omega (arith, k, c.requires))
+pub lead_next-requires : goal.lead_next-requires
+lead_next-requires c = let l = c.target_fits.ensures.t_lt_count (c.if-not-target_fits.false) in let k = c.target_fits-2.ensures.t_lt_count (c.if-not-target_fits-2.false) in (omega (arith, c.requires), omega (arith, l, c.requires), omega (arith, k, c.requires))
 
 pub returns : goal.returns
 unfolding tested is_next is_ins step_effects branches_taken pass_on one EMPTY union
-returns c code ks st =
-    record {
-      fits = sym (ap₂ (λ (a b : Bool). a && b) (sym (c.target_fits.ensures.value code st.size (next_past st refl _ c.only_bit.ensures)) ∙ not-false _ c.if-not-target_fits.false-raw) (sym (c.target_fits-2.ensures.value code st.size (next_past st refl _ c.only_bit.ensures)) ∙ not-false _ c.if-not-target_fits-2.false-raw)) ∙ tested-all _ code _ (next _ _);
-      went = λ t. record {
-        modes = λ g t. sym (and-true _);
-        marks = λ g t. c.lead_next-marks.ensures.agrees ks g;
-        aside = c.lead_next-marks.ensures.aside;
-        taken = sym (and-true _);
-        effects = sym (union-end _);
-        inserts = omega arith;
-        nexts = next-has c.args.w.nexts _ _ c.only_bit.ensures;
-        possible = c.join_at.ensures;
-      };
-    }
+returns c code ks st = (
+  sym (sym (ap₂ (λ (a b : Bool). a && b) (sym (c.target_fits.ensures.value code st.size (next_past st refl _ c.only_bit.ensures)) ∙ c.if-not-target_fits.false) (sym (c.target_fits-2.ensures.value code st.size (next_past st refl _ c.only_bit.ensures)) ∙ c.if-not-target_fits-2.false)) ∙ tested-all _ code _ (next _ _)),
+  record {
+    modes = λ g t. sym (and-true _);
+    marks = λ g t. c.lead_next.ensures.agrees ks g;
+    aside = c.lead_next.ensures.aside;
+    taken = sym (and-true _);
+    effects = sym (union-end _);
+    inserts = omega arith;
+    nexts = next-has c.args.w.nexts _ _ c.only_bit.ensures;
+    possible = c.join_at.ensures;
+  },
+)

@@ -1,13 +1,14 @@
 -- `spot_code` meets its contract.
 use native.Mathlib.Omega.{arith}
 use mathlib.Core.Path.{sym, ap}
+use Rattle.std.proofs.Common.{rules}
 use Rattle.faults.specs.Meaning.{spot_of, spot_code}
 use Rattle.faults.proofs.spot_code.Goals as goal
 
-pub returns-in-Nowhere : goal.returns-in-Nowhere
+pub returns-in-None : goal.returns-in-None
 unfolding spot_of spot_code
-returns-in-Nowhere c = (sym (ap (λ s. spot_code (spot_of s)) c.in-Nowhere.is), omega arith)
+returns-in-None c = (sym (ap (λ s. spot_code (spot_of s)) c.in-None.is), omega arith)
 
-pub returns-in-Record : goal.returns-in-Record
+pub returns-in-Some : goal.returns-in-Some
 unfolding spot_of spot_code
-returns-in-Record c = (sym (ap (λ s. spot_code (spot_of s)) c.in-Record.is), omega (arith, c.in-Record.known_told-1-own.given))
+returns-in-Some c = let told = sym (ap (λ s. spot_code (spot_of s)) c.in-Some.is) in search rules

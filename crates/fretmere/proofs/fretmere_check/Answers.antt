@@ -4,10 +4,10 @@ use Rattle.check_policy.specs.Answers.{answered}
 use Rattle.fretmere.proofs.WordLaws.{passed-says, refused_says}
 use Rattle.fretmere.proofs.fretmere_check.Goals as goal
 
-pub returns-in-Passed : goal.returns-in-Passed
+pub returns-in-Ok : goal.returns-in-Ok
 unfolding answered
-returns-in-Passed c = let e = ap answered (sym c.in-Passed.is) ∙ c.check-checked.ensures in passed-says _ _ _ e
+returns-in-Ok c = let e = ap answered (sym c.in-Ok.is) ∙ c.check.ensures in passed-says _ _ _ e
 
-pub returns-in-Refused : goal.returns-in-Refused
+pub returns-in-Err : goal.returns-in-Err
 unfolding answered
-returns-in-Refused c = let e = ap answered (sym c.in-Refused.is) ∙ c.check-checked.ensures in refused_says _ _ _ c.fault_word.ensures e
+returns-in-Err c = let e = ap answered (sym c.in-Err.is) ∙ c.check.ensures in refused_says _ _ _ c.fault_word.ensures e

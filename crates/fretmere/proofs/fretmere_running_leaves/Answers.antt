@@ -5,7 +5,7 @@ use Rattle.fretmere.proofs.WordLaws.{count-word, no-count}
 use Rattle.fretmere.proofs.fretmere_running_leaves.Goals as goal
 
 pub returns-then-state-ne-STATE_SIZE : goal.returns-then-state-ne-STATE_SIZE
-returns-then-state-ne-STATE_SIZE c = c.fault_word.ensures ∙ ap fault_word c.bare_fault.ensures ∙ no-count _ c.if-state-ne-STATE_SIZE.true
+returns-then-state-ne-STATE_SIZE c = c.fault_word.ensures ∙ ap fault_word c.bare.ensures ∙ no-count _ c.if-state-ne-STATE_SIZE.true
 
 pub returns : goal.returns
-returns c = c.saved_count.ensures ∙ count-word _ c.if-state-ne-STATE_SIZE.false
+returns c = c.from.ensures ∙ c.saved_count.ensures ∙ count-word _ c.if-state-ne-STATE_SIZE.false

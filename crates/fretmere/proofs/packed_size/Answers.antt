@@ -3,8 +3,8 @@ use mathlib.Core.Path.{◌∙◌, sym}
 use Rattle.fretmere.proofs.WordLaws.{size-word, refused-size}
 use Rattle.fretmere.proofs.packed_size.Goals as goal
 
-pub returns-in-Wrote : goal.returns-in-Wrote
-returns-in-Wrote c x e = size-word _ x (sym c.in-Wrote.is ∙ e)
+pub returns-in-Ok : goal.returns-in-Ok
+returns-in-Ok c x e = c.from.ensures ∙ size-word _ x (sym c.in-Ok.is ∙ e)
 
-pub returns-in-Refused : goal.returns-in-Refused
-returns-in-Refused c x e = c.fault_word.ensures ∙ refused-size _ x (sym c.in-Refused.is ∙ e)
+pub returns-in-Err : goal.returns-in-Err
+returns-in-Err c x e = c.fault_word.ensures ∙ refused-size _ x (sym c.in-Err.is ∙ e)

@@ -2,8 +2,8 @@
 use Rattle.fretmere_trace.proofs.WordLaws.{unopened-gave, followed-gave}
 use Rattle.fretmere_trace.proofs.trace_on_counts.Goals as goal
 
-pub returns-in-Unopened : goal.returns-in-Unopened
-returns-in-Unopened c = unopened-gave c.in-Unopened.is c.follow_trace-told.ensures c.fault_word.ensures
+pub returns-in-Err : goal.returns-in-Err
+returns-in-Err c = unopened-gave c.in-Err.is c.follow_trace.ensures c.fault_word.ensures
 
-pub returns-in-Followed : goal.returns-in-Followed
-returns-in-Followed c = followed-gave c.in-Followed.is c.follow_trace-told.ensures c.stop_word.ensures
+pub returns-in-Ok : goal.returns-in-Ok
+returns-in-Ok c = followed-gave c.in-Ok.is c.follow_trace.ensures c.stop_word.ensures c.from.ensures

@@ -18,46 +18,46 @@ returns-in_default c = refused-file c.args.policy.now (spec.offer c.args.action)
 pub returns-then-broken11 : goal.returns-then-broken11
 unfolding offers refusals
 returns-then-broken11 c =
-    let l = all_left c.args.policy.now (spec.offer c.args.action) c.args.state.now c.args.events.now (check-passes c.args.policy.now c.check-checked.ensures c.in-Passed.is) in
-    refused-here l (sym c.broken11.ensures ∙ c.if-broken11.true) _ c.bare_fault.ensures
+    let l = all_left c.args.policy.now (spec.offer c.args.action) c.args.state.now c.args.events.now (check-passes c.args.policy.now c.check-checked.ensures c.in-Ok.is) in
+    refused-here l (sym c.broken11.ensures ∙ c.if-broken11.true) _ c.bare.ensures
 
 pub broken12-requires : goal.broken12-requires
 broken12-requires c = (
-  passed c.args.policy.now _ _ (check-passes c.args.policy.now c.check-checked.ensures c.in-Passed.is),
+  passed c.args.policy.now _ _ (check-passes c.args.policy.now c.check-checked.ensures c.in-Ok.is),
   (room-enough c.args.state.now c.args.events.now (sym c.broken11.ensures ∙ c.if-broken11.false)).0,
 )
 
 pub returns-then-broken12 : goal.returns-then-broken12
 unfolding offers refusals
 returns-then-broken12 c =
-    let l = all_left c.args.policy.now (spec.offer c.args.action) c.args.state.now c.args.events.now (check-passes c.args.policy.now c.check-checked.ensures c.in-Passed.is) in
+    let l = all_left c.args.policy.now (spec.offer c.args.action) c.args.state.now c.args.events.now (check-passes c.args.policy.now c.check-checked.ensures c.in-Ok.is) in
     let l₁ = next-left l (sym c.broken11.ensures ∙ c.if-broken11.false) in
-    refused-here l₁ (sym c.broken12.ensures ∙ c.if-broken12.true) _ c.bare_fault-then-broken12.ensures
+    refused-here l₁ (sym c.broken12.ensures ∙ c.if-broken12.true) _ c.bare-then-broken12.ensures
 
-pub broken14-halted-requires : goal.broken14-halted-requires
-broken14-halted-requires c = (room-enough c.args.state.now c.args.events.now (sym c.broken11.ensures ∙ c.if-broken11.false)).0
+pub broken14-requires : goal.broken14-requires
+broken14-requires c = (room-enough c.args.state.now c.args.events.now (sym c.broken11.ensures ∙ c.if-broken11.false)).0
 
 pub returns-then-action-gt-LAST_ACTION : goal.returns-then-action-gt-LAST_ACTION
 unfolding offers refusals
 returns-then-action-gt-LAST_ACTION c =
-    let l = all_left c.args.policy.now (spec.offer c.args.action) c.args.state.now c.args.events.now (check-passes c.args.policy.now c.check-checked.ensures c.in-Passed.is) in
+    let l = all_left c.args.policy.now (spec.offer c.args.action) c.args.state.now c.args.events.now (check-passes c.args.policy.now c.check-checked.ensures c.in-Ok.is) in
     let l₁ = next-left l (sym c.broken11.ensures ∙ c.if-broken11.false) in
     let l₂ = next-left l₁ (sym c.broken12.ensures ∙ c.if-broken12.false) in
-    refused-here l₂ (no-action c.args.action (omega arith)) _ c.bare_fault-then-action-gt-LAST_ACTION.ensures
+    refused-here l₂ (no-action c.args.action (omega arith)) _ c.bare-then-action-gt-LAST_ACTION.ensures
 
-pub returns-then-halted : goal.returns-then-halted
+pub returns-then-broken14 : goal.returns-then-broken14
 unfolding offers refusals
-returns-then-halted c =
-    let l = all_left c.args.policy.now (spec.offer c.args.action) c.args.state.now c.args.events.now (check-passes c.args.policy.now c.check-checked.ensures c.in-Passed.is) in
+returns-then-broken14 c =
+    let l = all_left c.args.policy.now (spec.offer c.args.action) c.args.state.now c.args.events.now (check-passes c.args.policy.now c.check-checked.ensures c.in-Ok.is) in
     let l₁ = next-left l (sym c.broken11.ensures ∙ c.if-broken11.false) in
     let l₂ = next-left l₁ (sym c.broken12.ensures ∙ c.if-broken12.false) in
     let l₃ = next-left l₂ (an-action c.args.action (omega arith)) in
-    refused-here l₃ (sym c.broken14-halted.ensures ∙ c.if-halted.true) _ c.bare_fault-then-halted.ensures
+    refused-here l₃ (sym c.broken14.ensures ∙ c.if-broken14.true) _ c.bare-then-broken14.ensures
 
 pub carry_action-requires : goal.carry_action-requires
 unfolding readable
 carry_action-requires c =
-    let e = check-passes c.args.policy.now c.check-checked.ensures c.in-Passed.is in (
+    let e = check-passes c.args.policy.now c.check-checked.ensures c.in-Ok.is in (
       allowed c.args.policy.now c.args.state.now c.args.events.now (Offer c.args.action)
           e
           (sym c.broken11.ensures ∙ c.if-broken11.false)
@@ -68,9 +68,9 @@ carry_action-requires c =
 pub returns : goal.returns
 unfolding offers refusals
 returns c =
-    let l = all_left c.args.policy.now (spec.offer c.args.action) c.args.state.now c.args.events.now (check-passes c.args.policy.now c.check-checked.ensures c.in-Passed.is) in
+    let l = all_left c.args.policy.now (spec.offer c.args.action) c.args.state.now c.args.events.now (check-passes c.args.policy.now c.check-checked.ensures c.in-Ok.is) in
     let l₁ = next-left l (sym c.broken11.ensures ∙ c.if-broken11.false) in
     let l₂ = next-left l₁ (sym c.broken12.ensures ∙ c.if-broken12.false) in
     let l₃ = next-left l₂ (an-action c.args.action (omega arith)) in
-    let l₄ = next-left l₃ (sym c.broken14-halted.ensures ∙ c.if-halted.false) in
+    let l₄ = next-left l₃ (sym c.broken14.ensures ∙ c.if-broken14.false) in
     none_left l₄ c.carry_action.ensures

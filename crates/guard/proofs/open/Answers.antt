@@ -16,15 +16,15 @@ returns-in_default c = refused-file c.args.policy.now opening c.args.state.now c
 pub returns-then-broken11 : goal.returns-then-broken11
 unfolding opens refusals
 returns-then-broken11 c =
-    let l = all_left c.args.policy.now opening c.args.state.now c.args.events.now (check-passes c.args.policy.now c.check-checked.ensures c.in-Passed.is) in
-    refused-here l (sym c.broken11.ensures ∙ c.if-broken11.true) _ c.bare_fault.ensures
+    let l = all_left c.args.policy.now opening c.args.state.now c.args.events.now (check-passes c.args.policy.now c.check-checked.ensures c.in-Ok.is) in
+    refused-here l (sym c.broken11.ensures ∙ c.if-broken11.true) _ c.bare.ensures
 
 pub carry_out-requires : goal.carry_out-requires
 unfolding readable asks_root
 carry_out-requires c =
     record {
       allowed = allowed c.args.policy.now c.args.state.now c.args.events.now Open
-          (check-passes c.args.policy.now c.check-checked.ensures c.in-Passed.is)
+          (check-passes c.args.policy.now c.check-checked.ensures c.in-Ok.is)
           (sym c.broken11.ensures ∙ c.if-broken11.false)
           tt;
       asks = tt;
@@ -33,6 +33,6 @@ carry_out-requires c =
 pub returns : goal.returns
 unfolding opens refusals asked
 returns c =
-    let l = all_left c.args.policy.now opening c.args.state.now c.args.events.now (check-passes c.args.policy.now c.check-checked.ensures c.in-Passed.is) in
+    let l = all_left c.args.policy.now opening c.args.state.now c.args.events.now (check-passes c.args.policy.now c.check-checked.ensures c.in-Ok.is) in
     let l₁ = next-left l (sym c.broken11.ensures ∙ c.if-broken11.false) in
     none_left l₁ c.carry_out.ensures

@@ -8,20 +8,20 @@ use Rattle.guardcheck.proofs.ShownLaws.{shown-long, shown-short, told, spread-na
 use Rattle.guardcheck.proofs.tell.Goals as goal
 
 pub returns-then-input-gt-MOST_FILE : goal.returns-then-input-gt-MOST_FILE
-returns-then-input-gt-MOST_FILE c = told c.args.input.now c.requires c.refuse.ensures (ap refusal c.bare_fault.ensures ∙ shown-long c.args.input.now c.if-input-gt-MOST_FILE.true)
+returns-then-input-gt-MOST_FILE c = told c.args.input.now c.requires c.refuse.ensures (ap refusal c.bare.ensures ∙ shown-long c.args.input.now c.if-input-gt-MOST_FILE.true)
 
-pub spread_of-spread-requires : goal.spread_of-spread-requires
+pub spread_of-requires : goal.spread_of-requires
 unfolding checked.answered
-spread_of-spread-requires c = passed c.args.input.now _ _ (sym c.check.ensures ∙ ap checked.answered c.in-Passed.is)
+spread_of-requires c = passed c.args.input.now _ _ (sym c.check.ensures ∙ ap checked.answered c.in-Ok.is)
 
-pub returns-in-Passed : goal.returns-in-Passed
+pub returns-in-Ok : goal.returns-in-Ok
 unfolding checked.answered answered
-returns-in-Passed c =
-    told c.args.input.now c.requires (spread-named _ _ c.tell_passed.ensures c.spread_of-spread.ensures)
-    (shown-short c.args.input.now _ c.if-input-gt-MOST_FILE.false (sym (ap checked.answered c.in-Passed.is) ∙ c.check.ensures))
+returns-in-Ok c =
+    told c.args.input.now c.requires (spread-named _ _ c.tell_passed.ensures c.spread_of.ensures)
+    (shown-short c.args.input.now _ c.if-input-gt-MOST_FILE.false (sym (ap checked.answered c.in-Ok.is) ∙ c.check.ensures))
 
-pub returns-in-Refused : goal.returns-in-Refused
+pub returns-in-Err : goal.returns-in-Err
 unfolding checked.answered answered
-returns-in-Refused c =
-    told c.args.input.now c.requires c.refuse-in-Refused.ensures
-    (shown-short c.args.input.now _ c.if-input-gt-MOST_FILE.false (sym (ap checked.answered c.in-Refused.is) ∙ c.check.ensures))
+returns-in-Err c =
+    told c.args.input.now c.requires c.refuse-in-Err.ensures
+    (shown-short c.args.input.now _ c.if-input-gt-MOST_FILE.false (sym (ap checked.answered c.in-Err.is) ∙ c.check.ensures))

@@ -17,5 +17,5 @@ returns-then-front-lt2 g c = (short-end _ _ c.if-front-lt2.true, omega arith)
 pub returns : goal.returns
 returns g c =
     let h : c.policy_end-end.result ≤ length (c.read_full-front.new.room ++ drop 2 c.args.policy.now) = omega (arith, c.policy_end-end.ensures.2) in
-    let n = within (c.read_full-front.new.room ++ drop 2 c.args.policy.now) c.read_full.new.room c.policy_end-end.result c.read_full.result c.policy_end-end.ensures.0 c.policy_end-end.ensures.1 h c.read_full.auto.room c.read_full.ensures in
+    let n = within (c.read_full-front.new.room ++ drop 2 c.args.policy.now) c.read_full.new.room c.policy_end-end.result c.read_full.result c.policy_end-end.ensures.0 c.policy_end-end.ensures.1 h c.read_full.auto.room c.read_full.ensures.bound in
     (n, omega (arith, c.policy_end-end.ensures.2))

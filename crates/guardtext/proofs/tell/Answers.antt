@@ -8,24 +8,24 @@ use Rattle.guardtext.proofs.ShownLaws.{shown-long, shown-short, told}
 use Rattle.guardtext.proofs.tell.Goals as goal
 
 pub returns-then-input-gt-MOST_FILE : goal.returns-then-input-gt-MOST_FILE
-returns-then-input-gt-MOST_FILE c = told c.args.input.now (λ i. (c.shared_slice_known-1.given i).fits) c.requires c.refuse.ensures (ap refusal c.bare_fault.ensures ∙ shown-long c.args.input.now c.if-input-gt-MOST_FILE.true)
+returns-then-input-gt-MOST_FILE c = told c.args.input.now (λ i. (c.type_inv.input i).fits) c.requires c.refuse.ensures (ap refusal c.bare.ensures ∙ shown-long c.args.input.now c.if-input-gt-MOST_FILE.true)
 
 pub print_records-requires : goal.print_records-requires
 unfolding checked.answered
-print_records-requires c = pass_fits (sym c.check.ensures ∙ ap checked.answered c.in-Passed.is)
+print_records-requires c = pass_fits (sym c.check.ensures ∙ ap checked.answered c.in-Ok.is)
 
 pub tell_refused-requires : goal.tell_refused-requires
 unfolding checked.answered
-tell_refused-requires c = sym c.check.ensures ∙ ap checked.answered c.in-Refused.is
+tell_refused-requires c = sym c.check.ensures ∙ ap checked.answered c.in-Err.is
 
-pub returns-in-Passed : goal.returns-in-Passed
+pub returns-in-Ok : goal.returns-in-Ok
 unfolding checked.answered answered
-returns-in-Passed c =
-    told c.args.input.now (λ i. (c.shared_slice_known-1.given i).fits) c.requires c.print_records.ensures
-    (shown-short c.args.input.now _ c.if-input-gt-MOST_FILE.false (sym (ap checked.answered c.in-Passed.is) ∙ c.check.ensures))
+returns-in-Ok c =
+    told c.args.input.now (λ i. (c.type_inv.input i).fits) c.requires c.print_records.ensures
+    (shown-short c.args.input.now _ c.if-input-gt-MOST_FILE.false (sym (ap checked.answered c.in-Ok.is) ∙ c.check.ensures))
 
-pub returns-in-Refused : goal.returns-in-Refused
+pub returns-in-Err : goal.returns-in-Err
 unfolding checked.answered answered
-returns-in-Refused c =
-    told c.args.input.now (λ i. (c.shared_slice_known-1.given i).fits) c.requires c.tell_refused.ensures
-    (shown-short c.args.input.now _ c.if-input-gt-MOST_FILE.false (sym (ap checked.answered c.in-Refused.is) ∙ c.check.ensures))
+returns-in-Err c =
+    told c.args.input.now (λ i. (c.type_inv.input i).fits) c.requires c.tell_refused.ensures
+    (shown-short c.args.input.now _ c.if-input-gt-MOST_FILE.false (sym (ap checked.answered c.in-Err.is) ∙ c.check.ensures))

@@ -1,7 +1,7 @@
 -- `answered` meets its contract: three texts, one after the other.
 use mathlib.Core.Path.{ap}
 use mathlib.Core.Bool.{Bool}
-use native.Mathlib.Omega.{arith}
+use Rattle.std.proofs.Common.{rules}
 use Rattle.spec_turns.specs.Status.{status_of}
 use Rattle.text_append.proofs.AddedLaws.{joined, named}
 use Rattle.run_report.specs.Said.{ending, said}
@@ -14,4 +14,4 @@ unfolding said
 returns c =
     let f = named c.finish.ensures (ap (λ (l : Bool). ending l (status_of c.args.s)) c.is_last-over.ensures) in
     alone (joined c.begin-first.ensures (joined c.append_events-end.ensures f)) c.is_last-over.ensures
-    (answered-fits _ _ _ _ c.requires.1 (λ i. omega (arith, c.shared_slice_known-1.given i)))
+    (answered-fits _ _ _ _ c.requires.1 (λ i. search rules))

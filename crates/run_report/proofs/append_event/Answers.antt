@@ -1,4 +1,6 @@
 -- `append_event` meets its contract: three texts, one after the other.
+use mathlib.Core.Path.{ap}
+use Rattle.spec_text.specs.Numerals.{decimal}
 use Rattle.spec_text.specs.Words.{ascii}
 use Rattle.text_append.proofs.AddedLaws.{joined, named}
 use Rattle.run_report.specs.Lines.{line}
@@ -6,4 +8,6 @@ use Rattle.run_report.proofs.append_event.Goals as goal
 
 pub returns : goal.returns
 unfolding ascii line
-returns c = joined (named c.append-named.ensures c.kind-what.ensures) (joined c.append_number-end.ensures c.append.ensures)
+returns c =
+    let numbered = named c.append_number-end.ensures (ap decimal c.from.ensures) in
+    joined (named c.append-named.ensures c.kind.ensures) (joined numbered c.append.ensures)

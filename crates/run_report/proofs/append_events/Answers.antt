@@ -1,7 +1,4 @@
--- `append_events` meets its contract and ends: what is put is the lines of the events passed.
-use Prim.Native.Nat.{ℕ, ◌-◌}
-use mathlib.Core.Path.{◌≡◌, refl, ◌∙◌, ap}
-use native.Mathlib.Omega.{arith}
+-- `append_events` meets its contract: what is put is the lines of the events passed.
 use Rattle.text_append.proofs.AddedLaws.{nothing, joined, named}
 use Rattle.run_report.specs.Lines.{lines}
 use Rattle.run_report.proofs.LineLaws.{line-more}
@@ -9,12 +6,7 @@ use Rattle.run_report.proofs.append_events.Goals as goal
 
 pub loop-i-init : goal.loop-i-init
 unfolding lines
-loop-i-init c = (omega arith, refl, nothing _ _)
+loop-i-init c = nothing _ _
 
 pub loop-i-preserved : goal.loop-i-preserved
-loop-i-preserved c = (omega arith, c.append_event-end.auto.out ∙ c.loop-i.invariant.1, named (joined c.loop-i.invariant.2 c.append_event-end.ensures) (line-more _ _))
-
-pub returns : goal.returns
-returns c =
-    let n : c.loop-i.i ≡ c.args.count = omega (arith, c.loop-i.invariant.0) in
-    named c.loop-i.invariant.2 (ap (λ (k : ℕ). lines k c.args.events.now) n)
+loop-i-preserved c = named (joined c.loop-i.invariant c.append_event-end.ensures) (line-more _ _)

@@ -1,4 +1,5 @@
 -- `begin` meets its contract.
+use mathlib.Core.Logic.{inl, inr}
 use Rattle.spec_turns.specs.Status.{status_of}
 use Rattle.spec_turns.specs.Turn.{Request}
 use Rattle.call_answer.specs.Requests.{asked}
@@ -14,8 +15,6 @@ returns-in-Open c = named c.append_line.ensures (by_call (λ (q : Request). head
 
 pub returns-in-Offer : goal.returns-in-Offer
 unfolding asked heading
-returns-in-Offer c = named (nothing _ _) (by_call (λ (q : Request). heading q (status_of c.args.s)) c.in-Offer.is)
-
-pub returns-in-Close : goal.returns-in-Close
-unfolding asked heading
-returns-in-Close c = named (nothing _ _) (by_call (λ (q : Request). heading q (status_of c.args.s)) c.in-Close.is)
+returns-in-Offer c =
+    let of_status : Request → _ = λ q. heading q (status_of c.args.s) in
+    elim c.in-Offer.is [ inl offered ↦ named (nothing _ _) (by_call of_status offered.1) | inr closed ↦ named (nothing _ _) (by_call of_status closed) ]

@@ -1,8 +1,4 @@
--- `append_members` meets its contract and ends: what is left of the set makes the rest of its text.
-use Prim.Native.Nat.{◌+◌, ◌-◌}
-use mathlib.Core.Path.{refl, ◌∙◌, ap}
-use mathlib.Core.Bool.{Bool, ◌&&◌, not}
-use native.Mathlib.Omega.{arith}
+use Rattle.std.proofs.Common.{Bool, ◌&&◌, not, ◌+◌, ◌-◌, ap, arith}
 use Rattle.spec_text.specs.Printing.{listing}
 use Rattle.text_append.specs.Added.{led}
 use Rattle.text_append.proofs.AddedLaws.{nothing, joined, named, members-more, none_left}
@@ -10,14 +6,12 @@ use Rattle.text_append.proofs.append_members.Goals as goal
 
 pub loop-a-init : goal.loop-a-init
 unfolding led
-loop-a-init c = (omega arith, refl, λ x e h. h)
+loop-a-init c = λ x e h. h
 
 pub loop-a-preserved : goal.loop-a-preserved
-loop-a-preserved c = (
-  omega arith,
-  c.append_member-end.auto.out ∙ c.loop-a.invariant.1,
-  λ x e h. c.loop-a.invariant.2 x e (named (joined c.append_member-end.ensures (named h (ap (λ (b : Bool). led (c.loop-a.first && not b) (listing c.args.set.bits (c.loop-a.a + 1) (64 - (c.loop-a.a + 1)))) c.has.ensures))) (members-more _ _ _ (omega arith))),
-)
+loop-a-preserved c = λ x e h.
+    let rest = named h (ap (λ (b : Bool). led (c.loop-a.first && not b) (listing c.args.set.bits (c.loop-a.a + 1) (64 - (c.loop-a.a + 1)))) c.has.ensures) in
+    c.loop-a.invariant x e (named (joined c.append_member-end.ensures rest) (members-more _ _ _ (omega arith)))
 
 pub returns : goal.returns
-returns c = c.loop-a.invariant.2 _ _ (named (nothing _ _) (none_left _ _ _ (omega arith)))
+returns c = c.loop-a.invariant _ _ (named (nothing _ _) (none_left _ _ _ (omega arith)))

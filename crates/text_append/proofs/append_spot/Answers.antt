@@ -1,15 +1,16 @@
--- `append_spot` meets its contract: no text, or two.
-use mathlib.Core.Path.{sym, ap}
+use Rattle.std.proofs.Common.{ap, sym, ◌∙◌, ℕ, Some}
 use Rattle.spec_text.specs.Words.{ascii}
 use Rattle.faults.specs.Meaning.{spot_of}
 use Rattle.text_append.specs.Refusal.{spot_words}
-use Rattle.text_append.proofs.AddedLaws.{joined, named}
+use Rattle.text_append.proofs.AddedLaws.{nothing, joined, named}
 use Rattle.text_append.proofs.append_spot.Goals as goal
 
-pub returns-in-Nowhere : goal.returns-in-Nowhere
-unfolding spot_words spot_of ascii
-returns-in-Nowhere c = named c.append.ensures (sym (ap (λ p. spot_words (spot_of p)) c.in-Nowhere.is))
+pub returns-in-None : goal.returns-in-None
+unfolding spot_words spot_of
+returns-in-None c = named (nothing _ _) (sym (ap (λ p. spot_words (spot_of p)) c.in-None.is))
 
-pub returns-in-Record : goal.returns-in-Record
+pub returns-in-Some : goal.returns-in-Some
 unfolding spot_words spot_of ascii
-returns-in-Record c = named (joined c.append-named.ensures c.append_number.ensures) (sym (ap (λ p. spot_words (spot_of p)) c.in-Record.is))
+returns-in-Some c =
+    named (joined c.append-named.ensures c.append_number.ensures)
+    (ap (λ (p : ℕ). spot_words (spot_of (Some p))) c.from.ensures ∙ sym (ap (λ p. spot_words (spot_of p)) c.in-Some.is))

@@ -8,6 +8,6 @@ pub returns-then-room-eq0 : goal.returns-then-room-eq0
 unfolding ascii
 returns-then-room-eq0 c = named c.append.ensures (astray-none c.args.room c.if-room-eq0.true)
 
-pub returns : goal.returns
+pub returns-else-room-eq0 : goal.returns-else-room-eq0
 unfolding ascii
-returns c = named c.append-2.ensures (astray-full c.args.room c.if-room-eq0.false)
+returns-else-room-eq0 c = named c.append-else-room-eq0.ensures (astray-full c.args.room c.if-room-eq0.false)

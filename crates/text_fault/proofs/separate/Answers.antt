@@ -13,6 +13,6 @@ pub returns-then-i-eq-FORM_COUNT : goal.returns-then-i-eq-FORM_COUNT
 unfolding ascii
 returns-then-i-eq-FORM_COUNT c = named c.append.ensures (between-last c.args.i c.if-i-eq0.false c.if-i-eq-FORM_COUNT.true)
 
-pub returns : goal.returns
+pub returns-else-i-eq-FORM_COUNT : goal.returns-else-i-eq-FORM_COUNT
 unfolding ascii
-returns c = named c.append-2.ensures (between-others c.args.i c.if-i-eq0.false c.if-i-eq-FORM_COUNT.false)
+returns-else-i-eq-FORM_COUNT c = named c.append-else-i-eq-FORM_COUNT.ensures (between-others c.args.i c.if-i-eq0.false c.if-i-eq-FORM_COUNT.false)

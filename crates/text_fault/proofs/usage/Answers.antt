@@ -1,15 +1,14 @@
--- `usage` meets its contract: the form's own, or the first words of all.
-use mathlib.Core.Path.{sym, ◌∙◌}
-use lib.Seq.{length-take-le}
+use Rattle.std.proofs.Common.{sym, ap, ◌∙◌, Option, ℕ}
+use Rattle.text_forms.specs.Table.{form_found}
 use Rattle.text_append.proofs.AddedLaws.{named}
-use Rattle.text_fault.proofs.UsageLaws.{usage-form, usage-other}
+use Rattle.text_fault.specs.Expected.{expected}
+use Rattle.text_fault.proofs.UsageLaws.{usage-other}
 use Rattle.text_fault.proofs.usage.Goals as goal
 
-pub slice_bounds-append-end : goal.slice_bounds-append-end
-slice_bounds-append-end c = sym (length-take-le c.form_at-row.result.length c.form_at-row.result.usage c.form_at-row.ensures.usage_fits)
+pub returns-in-Some : goal.returns-in-Some
+unfolding expected form_found
+returns-in-Some c = named c.append.ensures (c.form_at.ensures.usage ∙ sym (ap (λ (o : Option ℕ). expected (form_found o)) c.in-Some.is))
 
-pub returns-then-form-lt-FORM_COUNT : goal.returns-then-form-lt-FORM_COUNT
-returns-then-form-lt-FORM_COUNT c = named c.append.ensures (c.form_at-row.ensures.usage ∙ usage-form c.args.form c.if-form-lt-FORM_COUNT.true)
-
-pub returns : goal.returns
-returns c = named c.all_words.ensures (usage-other c.args.form c.if-form-lt-FORM_COUNT.false)
+pub returns-in-None : goal.returns-in-None
+unfolding form_found
+returns-in-None c = named c.all_words.ensures (usage-other ∙ sym (ap (λ (o : Option ℕ). expected (form_found o)) c.in-None.is))

@@ -1,20 +1,13 @@
--- `append_bytes` meets its contract and ends: the bytes that are left make the rest of the text.
-use Prim.Native.Nat.{◌-◌}
-use mathlib.Core.Path.{refl, ◌∙◌}
-use native.Mathlib.Omega.{arith}
+use Rattle.std.proofs.Common.{ap}
+use Rattle.spec_text.specs.Numerals.{decimal}
 use Rattle.text_append.proofs.AddedLaws.{nothing, joined, named}
 use Rattle.text_lines.proofs.LineLaws.{parted-next, parted-over}
 use Rattle.text_lines.proofs.append_bytes.Goals as goal
 
-pub loop-i-init : goal.loop-i-init
-loop-i-init c = (omega arith, refl, λ x r h. h)
-
-pub loop-i-preserved : goal.loop-i-preserved
-loop-i-preserved c = (
-  omega arith,
-  c.append_number-end.auto.out ∙ c.append-spaced.auto.out ∙ c.loop-i.invariant.1,
-  λ x r h. c.loop-i.invariant.2 x r (named (joined (joined c.append-spaced.ensures c.append_number-end.ensures) h) (parted-next c.args.bytes.now c.loop-i.i (omega arith))),
-)
+pub loop-byte-preserved : goal.loop-byte-preserved
+loop-byte-preserved c = λ x r h.
+    let said = named c.append_number-end.ensures (ap decimal c.from.ensures) in
+    c.loop-byte.invariant x r (named (joined (joined c.append-spaced.ensures said) h) (parted-next c.args.bytes.now c.loop-byte.byte-index c.loop-byte-test.true))
 
 pub returns : goal.returns
-returns c = c.loop-i.invariant.2 _ _ (named (nothing _ _) (parted-over c.args.bytes.now c.loop-i.i (omega arith)))
+returns c = c.loop-byte.invariant _ _ (named (nothing _ _) (parted-over c.args.bytes.now c.loop-byte.byte-index c.loop-byte-test.false))

@@ -1,20 +1,28 @@
--- `line_end` meets its contract and ends.
-use Prim.Native.Nat.{◌-◌, ◌<◌}
+-- `line_end` meets its contract.
 use native.Mathlib.Omega.{arith}
-use lib.ListN.{length}
+use Prim.Native.Nat.{ℕ}
+use mathlib.Core.Path.{◌≡◌, subst}
+use lib.ListN.{length, drop}
+use lib.Seq.{slice}
+use Rattle.spec_text.specs.Words.{lines_from, lines}
 use Rattle.text_measure.proofs.LineLaws.{line-starts, line-more}
 use Rattle.text_measure.proofs.line_end.Goals as goal
 
 pub loop-i-init : goal.loop-i-init
-loop-i-init c = (omega arith, omega arith, line-starts c.args.text.now c.args.at)
+loop-i-init c = line-starts c.args.text.now c.args.at
 
 pub returns-then-text-i-eq-NEWLINE : goal.returns-then-text-i-eq-NEWLINE
-returns-then-text-i-eq-NEWLINE c = record { after = c.loop-i.invariant.0; inside = c.loop-i.invariant.1; same = c.loop-i.invariant.2; stops = λ l. c.if-text-i-eq-NEWLINE.true }
+returns-then-text-i-eq-NEWLINE c = record { after = omega arith; inside = omega arith; same = c.loop-i.invariant; stops = λ l. c.if-text-i-eq-NEWLINE.true }
 
 pub loop-i-preserved : goal.loop-i-preserved
-loop-i-preserved c =
-    let l : c.loop-i.i < length c.args.text.now = omega arith in
-    (omega arith, omega arith, line-more c.args.text.now c.args.at c.loop-i.i c.loop-i.invariant.0 l c.if-text-i-eq-NEWLINE.false c.loop-i.invariant.2)
+loop-i-preserved c = line-more c.args.text.now c.args.at c.loop-i.i (omega arith) c.loop-i-test.true c.if-text-i-eq-NEWLINE.false c.loop-i.invariant
 
 pub returns : goal.returns
-returns c = record { after = c.loop-i.invariant.0; inside = c.loop-i.invariant.1; same = c.loop-i.invariant.2; stops = λ l. absurd (omega arith) }
+returns c =
+    let z : c.loop-i.i ≡ length c.args.text.now = omega arith in
+    record {
+      after = omega arith;
+      inside = omega arith;
+      same = subst (λ (k : ℕ). lines (drop c.args.at c.args.text.now) ≡ lines_from (slice c.args.at k c.args.text.now) (drop k c.args.text.now)) z c.loop-i.invariant;
+      stops = λ l. absurd (omega arith);
+    }

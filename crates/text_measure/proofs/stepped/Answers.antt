@@ -3,7 +3,7 @@ use Rattle.text_measure.proofs.CountLaws.{counted-astray, counted_step}
 use Rattle.text_measure.proofs.stepped.Goals as goal
 
 pub returns-then-t-eq0 : goal.returns-then-t-eq0
-returns-then-t-eq0 c = λ form l h. counted-astray form c.args.t l h c.if-t-eq0.true
+returns-then-t-eq0 c = λ form xs l h. counted-astray c.args.t form xs l h c.if-t-eq0.true
 
 pub returns : goal.returns
-returns c = λ form l h. counted_step form c.args.t l h c.if-t-eq0.false
+returns c = λ form xs l h. counted_step c.args.t form xs l h c.if-t-eq0.false

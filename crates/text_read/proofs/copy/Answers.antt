@@ -1,5 +1,4 @@
 -- `copy` meets its contract and ends: what is left to be written is what was to be written.
-use Prim.Native.Nat.{◌-◌}
 use native.Mathlib.Omega.{arith}
 use mathlib.Core.Path.{refl, ◌∙◌}
 use Rattle.text_read.proofs.ReadLaws.{ready, written_on, written-end}
@@ -9,7 +8,7 @@ pub loop-at-init : goal.loop-at-init
 loop-at-init c = (omega arith, refl, refl, refl, c.requires)
 
 pub copy_line-p-requires : goal.copy_line-p-requires
-copy_line-p-requires c = ready c.args.text.now c.loop-at.at c.line_at-read.result.line.form c.line_at-read.result.line.fields c.line_at-read.result.next c.line_at-read.ensures c.loop-at.p.nodes c.loop-at.p.steps c.loop-at.nodes c.loop-at.steps c.loop-at.invariant.4
+copy_line-p-requires c = ready c.args.text.now c.loop-at.at c.line_at-read.result.line c.line_at-read.result.next c.line_at-read.ensures c.loop-at.p.nodes c.loop-at.p.steps c.loop-at.nodes c.loop-at.steps c.loop-at.invariant.4
 
 pub loop-at-smaller : goal.loop-at-smaller
 loop-at-smaller c = omega (arith, c.line_at-read.ensures.after, c.line_at-read.ensures.inside)
@@ -20,7 +19,7 @@ loop-at-preserved c = (
   c.copy_line-p.auto.nodes ∙ c.loop-at.invariant.1,
   c.copy_line-p.auto.steps ∙ c.loop-at.invariant.2,
   c.loop-at.invariant.3
-      ∙ written_on c.args.text.now c.loop-at.at c.line_at-read.result.line.form c.line_at-read.result.line.fields c.line_at-read.result.next c.line_at-read.ensures c.loop-at.p.nodes c.loop-at.p.steps c.loop-at.nodes c.loop-at.steps
+      ∙ written_on c.args.text.now c.loop-at.at c.line_at-read.result.line c.line_at-read.result.next c.line_at-read.ensures c.loop-at.p.nodes c.loop-at.p.steps c.loop-at.nodes c.loop-at.steps
       ∙ c.copy_line-p.ensures.same,
   c.copy_line-p.ensures.roomy,
 )

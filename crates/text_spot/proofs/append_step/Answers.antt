@@ -1,19 +1,16 @@
--- `append_step` meets its contract: three texts one after the other, or four.
-use mathlib.Core.Path.{sym, ap, ◌∙◌}
+-- Three texts one after the other, or four.
+use Rattle.std.proofs.Common.{ap}
 use Rattle.spec_text.specs.Words.{ascii}
 use Rattle.spec_text.specs.Where.{step_words}
 use Rattle.text_append.proofs.AddedLaws.{joined, named}
-use Rattle.text_spot.specs.Meaning.{owner_of}
 use Rattle.text_spot.proofs.append_step.Goals as goal
 
-pub returns-in-Nobody : goal.returns-in-Nobody
-unfolding step_words owner_of ascii
-returns-in-Nobody c =
-    named (joined c.append-begun.ensures (joined c.append_number-numbered.ensures c.append.ensures))
-    (sym (ap (step_words c.args.s) (sym c.leaf_of-owner.ensures ∙ ap owner_of c.in-Nobody.is)))
+pub returns-in-None : goal.returns-in-None
+unfolding step_words ascii
+returns-in-None c = named (joined c.append-begun.ensures (joined c.append_number-numbered.ensures c.append.ensures)) (ap (step_words c.args.s) c.in-None.ensures)
 
-pub returns-in-Leaf : goal.returns-in-Leaf
-unfolding step_words owner_of ascii
-returns-in-Leaf c =
-    named (joined c.append-begun.ensures (joined c.append_number-numbered-in-Leaf.ensures (joined c.append-owned.ensures c.append_number.ensures)))
-    (sym (ap (step_words c.args.s) (sym c.leaf_of-owner.ensures ∙ ap owner_of c.in-Leaf.is)))
+pub returns-in-Some : goal.returns-in-Some
+unfolding step_words ascii
+returns-in-Some c =
+    named (joined c.append-begun.ensures (joined c.append_number-numbered-in-Some.ensures (joined c.append-owned.ensures c.append_number.ensures)))
+    (ap (step_words c.args.s) c.in-Some.ensures)

@@ -1,4 +1,3 @@
--- `append_ran` meets its contract.
 use Rattle.spec_text.specs.Words.{ascii}
 use Rattle.text_append.proofs.AddedLaws.{joined, named}
 use Rattle.text_tally.proofs.LineLaws.{ran-never, ran-some}
@@ -8,6 +7,6 @@ pub returns-then-count-eq0 : goal.returns-then-count-eq0
 unfolding ascii
 returns-then-count-eq0 c = named c.append.ensures (ran-never c.args.count c.if-count-eq0.true)
 
-pub returns : goal.returns
+pub returns-else-count-eq0 : goal.returns-else-count-eq0
 unfolding ascii
-returns c = named (joined c.append-told.ensures c.append_number.ensures) (ran-some c.args.count c.if-count-eq0.false)
+returns-else-count-eq0 c = named (joined c.append-told.ensures c.append_number.ensures) (ran-some c.args.count c.if-count-eq0.false)

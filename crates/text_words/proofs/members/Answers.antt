@@ -1,69 +1,45 @@
--- `members` meets its contract and ends: the words that are left are read after the actions that were.
-use Prim.Native.Nat.{◌-◌}
+-- `members` meets its contract: the words that are left are read after the actions that were.
 use native.Mathlib.Omega.{arith}
 use mathlib.Core.Path.{refl, sym, ap, ◌∙◌}
-use lib.Arith.{lt_of_le-ne}
 use lib.ListN.{drop}
 use Rattle.actions.specs.Sets.{ActionSet, EMPTY, union}
 use Rattle.spec_text.specs.Words.{words}
 use Rattle.spec_text.specs.Reading.{members}
-use Rattle.text_words.specs.Scanned.{value_of, taken_of, end_of}
-use Rattle.text_words.proofs.TakenLaws.{no_words, first_word, past_words, numeral-bound, members-none, members-end, members-bad, members-more}
+use Rattle.text_words.specs.Scanned.{word_and, value_of, taken_of}
+use Rattle.text_words.proofs.ScanLaws.{word-first}
+use Rattle.text_words.proofs.TakenLaws.{same_as, numeral-bound, members-none, members-end, members-bad, members-more}
 use Rattle.text_words.proofs.members.Goals as goal
 
-pub loop-i-init : goal.loop-i-init
+pub loop-word-init : goal.loop-word-init
 unfolding EMPTY
-loop-i-init c = (omega arith, refl)
+loop-word-init c = (omega arith, refl)
 
-pub returns-then-start-end : goal.returns-then-start-end
-unfolding taken_of end_of
-returns-then-start-end c =
-    record {
-      is = sym (c.loop-i.invariant.1 ∙ members-none c.loop-i.set.bits _ (no_words c.args.line.now c.loop-i.i c.next_word-w.result.start c.next_word-w.result.end c.next_word-w.ensures c.if-start-end.true));
-      inside = omega arith;
-    }
+pub returns-then-eq-clause-is : goal.returns-then-eq-clause-is
+unfolding taken_of
+returns-then-eq-clause-is c =
+    let f = word-first c.args.line.now c.loop-word.i c.in-Some.word c.in-Some.ensures.is c.in-Some.ensures.inside.1 in
+    sym (c.loop-word.invariant.1 ∙ members-end c.loop-word.set.bits _ _ _ f (same_as _ _ c.eq.ensures c.as_slice.ensures ∙ c.if-eq.true))
 
-pub returns-then-is_byte : goal.returns-then-is_byte
-unfolding taken_of end_of
-returns-then-is_byte c =
-    let f = first_word c.args.line.now c.loop-i.i c.next_word-w.result.start c.next_word-w.result.end c.next_word-w.ensures c.if-start-end.false in
-    record {
-      is = sym (c.loop-i.invariant.1 ∙ members-end c.loop-i.set.bits _ _ _ f (sym c.is_byte.ensures ∙ c.if-is_byte.true));
-      inside = c.next_word-w.ensures.inside;
-    }
+pub returns-in_err-action-clause-is : goal.returns-in_err-action-clause-is
+unfolding taken_of value_of
+returns-in_err-action-clause-is c =
+    let f = word-first c.args.line.now c.loop-word.i c.in-Some.word c.in-Some.ensures.is c.in-Some.ensures.inside.1 in
+    ap (taken_of c.args.line.now) c.from_residual.ensures
+    ∙ sym (c.loop-word.invariant.1 ∙ members-bad c.loop-word.set.bits _ _ _ f (same_as _ _ c.eq.ensures c.as_slice.ensures ∙ c.if-eq.false) (sym c.in_err-action.ensures))
 
-pub returns-in_default : goal.returns-in_default
-unfolding taken_of end_of value_of
-returns-in_default c =
-    let f = first_word c.args.line.now c.loop-i.i c.next_word-w.result.start c.next_word-w.result.end c.next_word-w.ensures c.if-start-end.false in
-    let n = sym c.is_byte.ensures ∙ c.if-is_byte.false in
-    record {
-      is = sym (c.loop-i.invariant.1 ∙ members-bad c.loop-i.set.bits _ _ _ f n (sym c.numeral.ensures ∙ ap value_of c.in_default.is));
-      inside = omega arith;
-    }
-
-pub overflow_cast-a : goal.overflow_cast-a
+pub overflow_cast-action : goal.overflow_cast-action
 unfolding value_of
-overflow_cast-a c = let t = sym c.numeral.ensures ∙ ap value_of c.in-Number.is in omega (arith, numeral-bound 63 _ _ t)
+overflow_cast-action c = omega (arith, numeral-bound 63 _ _ (sym c.in_ok-action.ensures))
 
-pub loop-i-smaller : goal.loop-i-smaller
-loop-i-smaller c = omega (arith, c.next_word-w.ensures.after, c.next_word-w.ensures.inside, lt_of_le-ne c.next_word-w.ensures.ordered c.if-start-end.false)
-
-pub loop-i-preserved : goal.loop-i-preserved
+pub loop-word-preserved : goal.loop-word-preserved
 unfolding value_of
-loop-i-preserved c =
-    let f = first_word c.args.line.now c.loop-i.i c.next_word-w.result.start c.next_word-w.result.end c.next_word-w.ensures c.if-start-end.false in
-    let n = sym c.is_byte.ensures ∙ c.if-is_byte.false in
-    let t = sym c.numeral.ensures ∙ ap value_of c.in-Number.is in (
-      c.next_word-w.ensures.inside,
-      c.loop-i.invariant.1 ∙ members-more c.loop-i.set.bits _ _ _ f n _ t
-          ∙ ap (λ (s : ActionSet). members s (words (drop c.next_word-w.result.end c.args.line.now))) (sym (c.union-set.ensures ∙ ap (union c.loop-i.set.bits) c.single.ensures)),
+loop-word-preserved c =
+    let f = word-first c.args.line.now c.loop-word.i c.in-Some.word c.in-Some.ensures.is c.in-Some.ensures.inside.1 in (
+      c.in-Some.ensures.inside.2,
+      c.loop-word.invariant.1 ∙ members-more c.loop-word.set.bits _ _ _ f (same_as _ _ c.eq.ensures c.as_slice.ensures ∙ c.if-eq.false) _ (sym c.in_ok-action.ensures)
+          ∙ ap (λ (s : ActionSet). members s (words (drop c.in-Some.word.end c.args.line.now))) (sym (c.union-set.ensures ∙ ap (union c.loop-word.set.bits) c.single.ensures)),
     )
 
-pub returns : goal.returns
-unfolding taken_of end_of
-returns c =
-    record {
-      is = sym (c.loop-i.invariant.1 ∙ members-none c.loop-i.set.bits _ (past_words c.args.line.now c.loop-i.i (omega arith)));
-      inside = omega arith;
-    }
+pub returns-clause-is : goal.returns-clause-is
+unfolding taken_of word_and
+returns-clause-is c = sym (c.loop-word.invariant.1 ∙ members-none c.loop-word.set.bits _ c.in_default.ensures.is)

@@ -4,16 +4,16 @@ use Rattle.call_answer.specs.Requests.{asked}
 use Rattle.trace_run.proofs.RunLaws.{may-close, inside-again, closed-told, unclosed-told}
 use Rattle.trace_run.proofs.close_run.Goals as goal
 
-pub on_tail-r-requires : goal.on_tail-r-requires
-on_tail-r-requires c = may-close c.requires
+pub on_tail-requires : goal.on_tail-requires
+on_tail-requires c = may-close c.requires
 
 pub overflow_add-result : goal.overflow_add-result
-overflow_add-result c = omega (arith, inside-again c.on_tail-r.ensures c.in-Answered.is c.requires.inside)
+overflow_add-result c = omega (arith, inside-again c.on_tail.ensures c.in-Ok.is c.requires.inside)
 
-pub returns-in-Answered : goal.returns-in-Answered
+pub returns-in-Ok : goal.returns-in-Ok
 unfolding asked
-returns-in-Answered c = closed-told c.on_tail-r.ensures c.args.judged c.args.root c.in-Answered.is
+returns-in-Ok c = closed-told c.on_tail.ensures c.args.run.judged c.args.run.status c.in-Ok.is
 
-pub returns-in-Refused : goal.returns-in-Refused
+pub returns-in-Err : goal.returns-in-Err
 unfolding asked
-returns-in-Refused c = unclosed-told c.on_tail-r.ensures c.args.judged c.args.root c.in-Refused.is c.requires.a-status
+returns-in-Err c = unclosed-told c.on_tail.ensures c.args.run.judged c.args.run.status c.in-Err.is c.requires.a-status

@@ -1,13 +1,16 @@
 -- `running_leaf` meets its contract.
-use borrow.Enum.Refused.{opened}
-use Rattle.turn_state.proofs.LeafLaws.{leaf-runs, leaf-rests, no-leaf}
+use Rattle.std.proofs.lemmas.Grind.{common_steps}
+use native.Mathlib.Omega.{arith}
+use Rattle.spec_policy.specs.Lists.{one}
+use Rattle.spec_turns.proofs.StatusLaws.{running-one}
+use Rattle.laws_turns.specs.Leaves.{is_leaf}
+use Rattle.file_records.specs.Kinds.{kind_of}
 use Rattle.turn_state.proofs.running_leaf.Goals as goal
 
-pub returns-then-status-eq-RUNNING : goal.returns-then-status-eq-RUNNING
-returns-then-status-eq-RUNNING c = leaf-runs _ _ c.view_kind-kind.ensures _ c.in-Leaf.is c.if-status-eq-RUNNING.true
-
-pub returns-else-status-eq-RUNNING : goal.returns-else-status-eq-RUNNING
-returns-else-status-eq-RUNNING c = leaf-rests _ _ c.view_kind-kind.ensures _ c.in-Leaf.is c.if-status-eq-RUNNING.false
+pub returns-in-Leaf : goal.returns-in-Leaf
+unfolding is_leaf one kind_of
+returns-in-Leaf c = grind (arith, common_steps, running-one)
 
 pub returns-in_default : goal.returns-in_default
-returns-in_default c = no-leaf _ _ c.view_kind-kind.ensures _ (opened c.in_default.in_default-own.keys2)
+unfolding is_leaf one kind_of
+returns-in_default c = grind (arith, common_steps, running-one)

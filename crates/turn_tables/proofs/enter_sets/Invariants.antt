@@ -3,6 +3,3 @@ use Rattle.turn_tables.proofs.enter_sets.Given as goal
 
 abbrev pub invariant-loop-i : goal.invariant-loop-i
 invariant-loop-i l = Filled l.policy l.n l.m l.initial.mem l.mem l.i l.first
-
-abbrev pub decreases-loop-i : goal.decreases-loop-i
-decreases-loop-i l = l.i

@@ -1,9 +1,9 @@
 -- `one_more` meets its contract.
-use Rattle.spec_trace.proofs.CountLaws.{more-at, more-below}
+use native.Mathlib.Omega.{arith}
+use Rattle.std.proofs.lemmas.Bool.Decides.{nat_tests}
+use Rattle.spec_trace.specs.Counts.{more}
 use Rattle.turn_tally.proofs.one_more.Goals as goal
 
-pub returns-then-n-eq-MOST : goal.returns-then-n-eq-MOST
-returns-then-n-eq-MOST c = more-at _ c.if-n-eq-MOST.true
-
 pub returns : goal.returns
-returns c = more-below _ c.if-n-eq-MOST.false
+unfolding more
+returns c = grind (arith, nat_tests)

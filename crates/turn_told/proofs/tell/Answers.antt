@@ -1,21 +1,13 @@
 -- `tell` meets its contract. The invariant: the first k inserts are still in the words, and the others stand in the room.
-use native.Mathlib.Omega.{arith}
 use mathlib.Core.Path.{refl}
-use lib.ListN.{length-set}
 use Rattle.turn_told.proofs.TellLaws.{popped-none, popped-more, emptied, sent}
 use Rattle.turn_told.proofs.tell.Goals as goal
 
 pub loop-k-init : goal.loop-k-init
 loop-k-init c = popped-none _ _ _ _ refl
 
-pub bounds-events-place-in-loop-k : goal.bounds-events-place-in-loop-k
-bounds-events-place-in-loop-k c = simp length-set (omega arith)
-
 pub loop-k-preserved : goal.loop-k-preserved
 loop-k-preserved c = popped-more c.loop-k.invariant c.loop-k-test.true c.requires.mem_len.1 c.requires.mem_len.0 c.requires.count_place_in_bounds
-
-pub shape_of-events : goal.shape_of-events
-shape_of-events c = c.loop-k.invariant.room-size
 
 pub returns : goal.returns
 returns c = record { kept = emptied c.loop-k.invariant c.loop-k-test.false c.requires.mem_len.0; sent = sent c.loop-k.invariant c.loop-k-test.false c.requires.mem_len.0 }

@@ -3,6 +3,3 @@ use Rattle.turn_told.proofs.tell.Given as goal
 
 abbrev pub invariant-loop-k : goal.invariant-loop-k
 invariant-loop-k l = Popped l.initial.mem l.mem l.initial.events l.events l.count l.n l.k
-
-abbrev pub decreases-loop-k : goal.decreases-loop-k
-decreases-loop-k l = l.k

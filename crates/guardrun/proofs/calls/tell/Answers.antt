@@ -5,10 +5,10 @@ use Rattle.guardrun.proofs.SpokenLaws.{spoke-answered, spoke-refused}
 use Rattle.guardrun.proofs.calls.tell.Goals as goal
 
 pub answered-requires : goal.answered-requires
-answered-requires c = few _ _ _ _ c.ask-answer.ensures c.in-Answered.is
+answered-requires c = few _ _ _ _ c.ask.ensures c.in-Ok.is
 
-pub returns-in-Answered : goal.returns-in-Answered
-returns-in-Answered c = spoke-answered c.ask-answer.ensures c.in-Answered.is c.answered.ensures
+pub returns-in-Ok : goal.returns-in-Ok
+returns-in-Ok c = spoke-answered c.ask.ensures c.in-Ok.is c.answered.ensures
 
-pub returns-in-Refused : goal.returns-in-Refused
-returns-in-Refused c = spoke-refused c.ask-answer.ensures (refused-small _ _ _ _) _ c.in-Refused.is (c.refused.ensures _)
+pub returns-in-Err : goal.returns-in-Err
+returns-in-Err c = spoke-refused c.ask.ensures (refused-small _ _ _ _) _ c.in-Err.is (c.refused.ensures _)

@@ -1,5 +1,6 @@
 -- `tell_followed` meets its contract: two texts, for which there is room.
 use native.Mathlib.Omega.{arith}
+use borrow.Author.Rules.{rules}
 use mathlib.Core.Path.{◌∙◌, ap}
 use Rattle.spec_policy.specs.Records.{node_place}
 use Rattle.spec_turns.specs.Status.{status_of}
@@ -34,6 +35,6 @@ slice_bounds-print_tally-start-2 c = in-file c.args.policy.now c.requires.0 _ (c
 pub returns : goal.returns
 returns c =
     let t : Tally = record { steps = c.args.ran.now; actions = c.args.met.now } in
-    let l = followed-less c.args.policy.now c.requires.0 (stop_of c.args.stop) c.args.judged c.args.events (status_of c.args.root) t (λ i. (c.shared_slice_known-1.given i).fits) (λ i. omega (arith, c.shared_slice_known-2-1.given i)) (λ i. omega (arith, c.shared_slice_known-3-1.given i)) c.requires.1 (omega (arith, c.ranges.judged)) (omega (arith, c.ranges.events)) in
+    let l = followed-less c.args.policy.now c.requires.0 (stop_of c.args.stop) c.args.judged c.args.events (status_of c.args.root) t (λ i. search rules) (λ i. search rules) (λ i. search rules) c.requires.1 (omega (arith, c.ranges.judged)) (omega (arith, c.ranges.events)) in
     tells (named (joined c.head-headed.ensures c.print_tally.ensures) (followed-text c.args.policy.now c.requires.0 (stop_of c.args.stop) c.args.judged c.args.events (status_of c.args.root) t _ (c.node_place-steps.ensures ∙ ap node_place c.nodes_of.ensures.0)))
     (omega (arith, l, c.requires.2))

@@ -6,14 +6,14 @@ use Rattle.guardwrite.specs.Said.{blamed}
 use Rattle.guardwrite.proofs.ToldLaws.{refused-tells}
 use Rattle.guardwrite.proofs.told.refused.Goals as goal
 
-pub returns-in-Nowhere : goal.returns-in-Nowhere
+pub returns-in-None : goal.returns-in-None
 unfolding blamed spot_of
-returns-in-Nowhere c =
-    subst (Tells _ _) (sym (ap (λ w. blamed (spot_of w) c.args.text.now c.args.nodes.now (fault_of c.args.fault)) c.in-Nowhere.is))
+returns-in-None c =
+    subst (Tells _ _) (sym (ap (λ w. blamed (spot_of w) c.args.text.now c.args.nodes.now (fault_of c.args.fault)) c.in-None.is))
     (refused-tells (fault_of c.args.fault) c.requires.0 c.requires.1 c.refuse.ensures)
 
-pub returns-in-Record : goal.returns-in-Record
+pub returns-in-Some : goal.returns-in-Some
 unfolding blamed spot_of
-returns-in-Record c =
-    subst (Tells _ _) (sym (ap (λ w. blamed (spot_of w) c.args.text.now c.args.nodes.now (fault_of c.args.fault)) c.in-Record.is))
+returns-in-Some c =
+    subst (Tells _ _) (sym (ap (λ w. blamed (spot_of w) c.args.text.now c.args.nodes.now (fault_of c.args.fault)) c.in-Some.is))
     c.blame.ensures

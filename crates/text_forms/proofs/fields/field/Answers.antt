@@ -1,7 +1,9 @@
 -- `field` meets its contract.
+use Prim.Native.Nat.{ℕ}
 use mathlib.Core.Path.{sym, ap, ◌∙◌}
 use native.Mathlib.Omega.{arith}
 use lib.ListN.{get_or}
+use Rattle.spec_policy.specs.Bytes.{number}
 use Rattle.spec_text.specs.Forms.{size, fields_in}
 use Rattle.text_forms.specs.declared.forms.Sort.{Sort}
 use Rattle.text_forms.specs.Meant.{sort_of}
@@ -13,7 +15,9 @@ pub byte-requires : goal.byte-requires
 byte-requires c = omega (arith, c.requires, size-least (sort_of c.args.sort))
 
 pub returns-then-place-lt4 : goal.returns-then-place-lt4
-returns-then-place-lt4 c = c.byte.ensures ∙ first-four (sort_of c.args.sort) _ _ c.if-place-lt4.true
+returns-then-place-lt4 c =
+    let f = first-four (sort_of c.args.sort) c.args.bytes.now c.args.place c.if-place-lt4.true in
+    c.from-then-place-lt4.ensures ∙ c.byte.ensures ∙ ap (λ (k : ℕ). number c.args.bytes.now k 1) c.from.ensures ∙ f
 
 pub node_rest-requires : goal.node_rest-requires
 unfolding sort_of

@@ -1,27 +1,17 @@
 -- `fits` meets its contract.
-use mathlib.Core.Path.{sym, ap, ◌∙◌}
 use Prim.Native.Nat.{ℕ}
+use mathlib.Core.Path.{ap, ap₂, ◌∙◌}
 use lib.Dec.{leb}
-use Rattle.spec_policy.specs.Lists.{every}
-use Rattle.spec_text.specs.Forms.{number, actions, place, bound, fields_in}
-use Rattle.text_forms.specs.declared.forms.Slot.{Slot}
-use Rattle.text_forms.specs.Meant.{sort_of, slot_of}
-use Rattle.text_forms.specs.Whole.{fit}
-use Rattle.text_forms.proofs.FieldLaws.{fit-one}
+use lib.ListN.{get_or}
+use Rattle.spec_text.specs.Forms.{fields_in}
+use Rattle.text_forms.specs.Meant.{sort_of}
+use Rattle.text_forms.proofs.SlotLaws.{fit-one, fit-none}
 use Rattle.text_forms.proofs.fields.fits.Goals as goal
 
-pub returns-in-Number : goal.returns-in-Number
-unfolding slot_of place bound
-returns-in-Number c =
-    ap (λ (n : ℕ). leb n c.in-Number.most) c.field.ensures ∙ fit-one (number _ _) _
-    ∙ ap (λ (s : Slot). fit (slot_of s) (fields_in (sort_of c.args.sort) c.args.bytes.now)) (sym c.in-Number.is)
+pub returns-in-Some : goal.returns-in-Some
+returns-in-Some c =
+    ap₂ leb (c.field.ensures ∙ ap (λ (i : ℕ). get_or (fields_in (sort_of c.args.sort) c.args.bytes.now) i 0) c.place_of.ensures) c.most_of.ensures
+    ∙ fit-one c.args.slot c.in-Some.slot _ c.in-Some.is
 
-pub returns-in-Actions : goal.returns-in-Actions
-unfolding slot_of place bound
-returns-in-Actions c =
-    ap (λ (n : ℕ). leb n 18_446_744_073_709_551_615) c.field-in-Actions.ensures ∙ fit-one (actions _) _
-    ∙ ap (λ (s : Slot). fit (slot_of s) (fields_in (sort_of c.args.sort) c.args.bytes.now)) (sym c.in-Actions.is)
-
-pub returns-in-Nothing : goal.returns-in-Nothing
-unfolding slot_of fit every
-returns-in-Nothing c = ap (λ (s : Slot). fit (slot_of s) (fields_in (sort_of c.args.sort) c.args.bytes.now)) (sym c.in-Nothing.is)
+pub returns-in-None : goal.returns-in-None
+returns-in-None c = fit-none c.args.slot _ c.in-None.is

@@ -24,4 +24,4 @@ returns-in-5 c = c.node_set.ensures ∙ ap (λ (i : ℕ). get_or (fields_in node
 
 pub returns-in_default : goal.returns-in_default
 unfolding fields_in
-returns-in_default c = sym (get_or-eq_default (fields_in node c.args.bytes.now) 0 {n = c.args.place} (omega (arith, c.requires.1, c.in_default.in_default-own.rest.0.1, c.in_default.in_default-own.rest.1)))
+returns-in_default c = sym (get_or-eq_default (fields_in node c.args.bytes.now) 0 {n = c.args.place} (omega arith))

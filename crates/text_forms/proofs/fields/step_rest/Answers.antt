@@ -17,4 +17,4 @@ returns-in-4 c = c.word64.ensures ∙ ap (λ (i : ℕ). get_or (fields_in step c
 
 pub returns-in_default : goal.returns-in_default
 unfolding fields_in
-returns-in_default c = sym (get_or-eq_default (fields_in step c.args.bytes.now) 0 {n = c.args.place} (omega (arith, c.requires.1, c.in_default.in_default-own.rest.1)))
+returns-in_default c = sym (get_or-eq_default (fields_in step c.args.bytes.now) 0 {n = c.args.place} (omega arith))

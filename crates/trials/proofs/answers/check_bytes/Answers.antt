@@ -5,12 +5,12 @@ use Rattle.trials.specs.Calls.{answer_bytes}
 use Rattle.trials.proofs.CallLaws.{passed-bytes}
 use Rattle.trials.proofs.answers.check_bytes.Goals as goal
 
-pub returns-in-Passed : goal.returns-in-Passed
+pub returns-in-Ok : goal.returns-in-Ok
 unfolding answered
-returns-in-Passed c =
+returns-in-Ok c =
     passed-bytes c.bare_fault.result _ _ c.bare_fault.ensures c.spell.ensures
-    (ap answered (sym c.in-Passed.is) ∙ c.check-c.ensures)
+    (ap answered (sym c.in-Ok.is) ∙ c.check.ensures)
 
-pub returns-in-Refused : goal.returns-in-Refused
+pub returns-in-Err : goal.returns-in-Err
 unfolding answered answer_bytes
-returns-in-Refused c = c.spell-in-Refused.ensures ∙ ap answer_bytes (ap answered (sym c.in-Refused.is) ∙ c.check-c.ensures)
+returns-in-Err c = c.spell-in-Err.ensures ∙ ap answer_bytes (ap answered (sym c.in-Err.is) ∙ c.check.ensures)

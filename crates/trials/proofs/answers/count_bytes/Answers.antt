@@ -1,8 +1,7 @@
 -- `count_bytes` meets its contract.
-use mathlib.Core.Path.{refl}
-use Rattle.spec_policy.specs.Bytes.{spell}
+use mathlib.Core.Path.{◌∙◌}
+use Rattle.trials.proofs.SpellLaws.{four}
 use Rattle.trials.proofs.answers.count_bytes.Goals as goal
 
 pub returns : goal.returns
-unfolding spell
-returns c = refl
+returns c = c.to_be_bytes.ensures ∙ four _

@@ -1,4 +1,5 @@
 -- `enter` meets its contract.
+use native.Mathlib.Omega.{arith}
 use Rattle.spec_turns.specs.Entries.{opens, offers, closes}
 use Rattle.call_answer.proofs.Heard.{gave-as}
 use Rattle.trials.proofs.CallLaws.{request-open, request-offer, request-close}
@@ -14,4 +15,4 @@ returns-in-2 c = gave-as _ _ _ (request-offer _ _ c.in-2.is) c.offer.ensures
 
 pub returns-in_default : goal.returns-in_default
 unfolding closes
-returns-in_default c = gave-as _ _ _ (request-close _ _ c.in_default.in_default-own.rest.0.1 c.in_default.in_default-own.rest.1) c.close.ensures
+returns-in_default c = gave-as _ _ _ (request-close _ _ (λ e. omega arith) (λ e. omega arith)) c.close.ensures

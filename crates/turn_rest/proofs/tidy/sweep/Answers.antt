@@ -1,10 +1,8 @@
 -- `sweep` meets its contract. The invariant: the records of the nodes below i are written, and their leaves that run are counted.
-use Prim.Native.Nat.{◌-◌}
 use native.Mathlib.Omega.{arith}
-use mathlib.Core.Path.{sym, ◌∙◌}
 use Rattle.laws_turns.proofs.Cells.{cells-size}
 use Rattle.turn_tables.proofs.FileNodes.{room, node-in}
-use Rattle.turn_rest.proofs.SweepLaws.{worth-read, count-few, swept_none, swept-more, swept_all}
+use Rattle.turn_rest.proofs.SweepLaws.{worth-read, count-few, swept_none, swept-more}
 use Rattle.turn_rest.proofs.tidy.sweep.Goals as goal
 
 pub loop-i-init : goal.loop-i-init
@@ -22,27 +20,15 @@ overflow_add-leaves c =
     let w = worth-read c.requires.passed.0 _ (omega (arith, c.loop-i-test.true, c.requires.passed.1)) c.status_at.ensures c.running_leaf-leaves.ensures in
     omega (arith, c.loop-i-test.true, c.requires.passed.1, count-few c.requires.passed.0 c.loop-i.invariant.1 w)
 
-pub rest-x-requires : goal.rest-x-requires
-rest-x-requires c = ((c.requires.passed.0, omega (arith, c.loop-i-test.true, c.requires.passed.1)), c.loop-i.invariant.1.words)
+pub rest-word-requires : goal.rest-word-requires
+rest-word-requires c = ((c.requires.passed.0, omega (arith, c.loop-i-test.true, c.requires.passed.1)), c.loop-i.invariant.1.words)
 
 pub save_word-requires : goal.save_word-requires
 save_word-requires c =
     let r = room c.requires.passed.0 in
     (c.loop-i.invariant.0, omega (arith, c.loop-i-test.true, c.requires.passed.1))
 
-pub overflow_add-i : goal.overflow_add-i
-overflow_add-i c = omega (arith, c.loop-i-test.true)
-
-pub loop-i-smaller : goal.loop-i-smaller
-loop-i-smaller c = omega (arith, c.loop-i-test.true)
-
 pub loop-i-preserved : goal.loop-i-preserved
 loop-i-preserved c =
     let w = worth-read c.requires.passed.0 _ (omega (arith, c.loop-i-test.true, c.requires.passed.1)) c.status_at.ensures c.running_leaf-leaves.ensures in
-    (c.save_word.ensures.0, swept-more c.requires.passed.0 _ c.loop-i.invariant.1 (omega (arith, c.loop-i-test.true, c.requires.passed.1)) w c.rest-x.ensures.under c.rest-x.ensures.word c.save_word.ensures.1)
-
-pub shape_of-state : goal.shape_of-state
-shape_of-state c = c.loop-i.invariant.0 ∙ sym c.requires.mem_len.1
-
-pub returns : goal.returns
-returns c = record { swept = swept_all c.loop-i.invariant.1 c.loop-i-test.false c.requires.passed.1; state_len = c.loop-i.invariant.0 }
+    (c.save_word.ensures.0, swept-more c.requires.passed.0 _ c.loop-i.invariant.1 (omega (arith, c.loop-i-test.true, c.requires.passed.1)) w c.rest-word.ensures.under c.rest-word.ensures.word c.save_word.ensures.1)

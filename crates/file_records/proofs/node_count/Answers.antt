@@ -1,7 +1,0 @@
--- `node_count` meets its contract.
-use Rattle.spec_policy.specs.Records.{node_at}
-use Rattle.file_records.proofs.node_count.Goals as goal
-
-pub returns : goal.returns
-unfolding node_at
-returns c = c.byte.ensures

@@ -1,7 +1,0 @@
--- `node_start` meets its contract.
-use Rattle.spec_policy.specs.Records.{node_at}
-use Rattle.file_records.proofs.node_start.Goals as goal
-
-pub returns : goal.returns
-unfolding node_at
-returns c = c.word32.ensures
