@@ -1,8 +1,9 @@
-// Which step breaks rule 6, 7 or 8: asked only once the rule is known to be broken, so that a file that passes pays nothing for it. What the walk through
-// the leaves asks of a step is compiled into the walk, so a record is read anew here, by functions of this crate.
+// Which step breaks rule 6, 7 or 8: asked only once the rule is known to be broken, so that a file that passes pays nothing for it. The walk's reading of
+// a record is compiled into the walk, so a record is read anew here, by the reader that a call has.
 #![tactic(auto)]
 
-ghost use Rattle.std.specs.Prelude.{ℕ, Bool, Option, ◌≡◌, true, false, [], ◌∷◌, map, ◌+◌, ◌*◌, ◌≤◌, ◌<◌, T, ltb, length, get_or, take};
+ghost use Rattle.std.specs.Prelude.{ℕ, Bool, Option, ◌≡◌, true, false, [], ◌∷◌};
+ghost use Rattle.std.specs.Prelude.{map, ◌+◌, ◌*◌, ◌≤◌, ◌<◌, T, ltb, length, get_or, take};
 ghost use Rattle.actions.specs.Sets.{EMPTY};
 ghost use Rattle.spec_policy.specs.Lists.{every, summed, listed};
 ghost use Rattle.spec_policy.specs.Spots.{first_off};
@@ -47,7 +48,9 @@ fn set_in(asked: Operand) -> ActionSet
 fn first_failing<F: Fn(usize) -> bool>(count: usize, passes: F) -> Option<u16>
     requires few { count ≤ most_leaf_steps }
     requires may { (o : ℕ) → o < count → F.pre passes o }
-    ensures { (f : ℕ → steps.Step → Bool) (g : ℕ → steps.Step) → ((o : ℕ) (b : Bool) → o < count → F.post passes o b → b ≡ f o (g o)) → spot_of result ≡ first_off f 0 (listed g 0 count) }
+    ensures { (f : ℕ → steps.Step → Bool) (g : ℕ → steps.Step)
+        → ((o : ℕ) (b : Bool) → o < count → F.post passes o b → b ≡ f o (g o))
+        → spot_of result ≡ first_off f 0 (listed g 0 count) }
 {
     for o in 0..count {
         if !passes(o) {
@@ -211,7 +214,9 @@ fn first_in_leaves<F: Fn(usize, usize, ActionSet) -> Option<u16>>(
     requires policy_value_2 { summed (map steps_owned (nodes file.policy.now)) ≡ file.m }
     requires may { (at count : ℕ) (set : ActionSet) → LeafAt file.policy.now at count set.bits → F.pre in_leaf at count set }
     requires inside { (at count o : ℕ) (set : ActionSet) → F.post in_leaf at count set (Some o) → o < count }
-    ensures { (off : Search) → ((at count : ℕ) (set : ActionSet) (r : Option ℕ) → F.post in_leaf at count set r → spot_of r ≡ off set.bits (code_at file.entry.policy.now at count))
+    ensures { (off : Search)
+        → ((at count : ℕ) (set : ActionSet) (r : Option ℕ)
+        → F.post in_leaf at count set r → spot_of r ≡ off set.bits (code_at file.entry.policy.now at count))
         → spot_of result ≡ first_in_leaves off 0 (nodes_with_steps file.entry.policy.now) }
 {
     let steps = node_place(file.n);
