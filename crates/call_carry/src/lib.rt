@@ -89,7 +89,9 @@ pub fn carry_action_counting(
     Ok(Answered { events: 1, status })
 }
 
-// A call on the caller's file, state and events. The file's counts are read here, once for the whole call.
+// A call on the caller's file, state and events. The file's counts are read here, once for the whole call. It is a frame of its own, which holds the
+// memory of a call: compiled into a run over a trace, it would cost twice the instructions at each action that is accepted with no change.
+#[inline(never)]
 pub fn carry_out_counting(
     policy: &[u8],
     state: &mut [u8],

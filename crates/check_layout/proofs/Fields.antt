@@ -7,10 +7,6 @@ use mathlib.Core.Path.{◌≡◌, refl, sym, ap, ap₂, ◌∙◌}
 use mathlib.Core.Bool.{Bool, true, false, ◌&&◌, ◌||◌, not}
 use lib.Dec.{eqb, leb}
 use lib.ListN.{length}
-use Rattle.std.specs.Prelude.{Some}
-use Rattle.std.specs.Bool.{then_some}
-use Rattle.file_records.specs.declared.Operand.TheVariants.{Amount}
-use Rattle.file_records.specs.declared.Step.TheVariants.{Spend}
 use Rattle.spec_policy.specs.Bytes.{Bytes, number}
 use Rattle.spec_policy.specs.Records.{Node, StepRecord, length_field, node_count, step_count, step_record_at, node_place, step_place}
 use Rattle.spec_policy.specs.Tree.{NodeKind, node_kind}
@@ -74,7 +70,7 @@ halves zero (suc low) = not-zero (suc low) (omega arith) ∙ sym (not-zero (0 * 
 halves (suc high) low =
     ap (λ (b : Bool). b && eqb low 0) (not-zero (suc high) (omega arith)) ∙ sym (not-zero (suc high * 4294967296 + low) (omega arith))
 
-high-alone : (high low : ℕ) → low < 4294967296 → eqb high 0 ≡ leb (high * 4294967296 + low) 4294967295
+pub high-alone : (high low : ℕ) → low < 4294967296 → eqb high 0 ≡ leb (high * 4294967296 + low) 4294967295
 high-alone zero low h = sym (le-leb (0 * 4294967296 + low) 4294967295 (omega arith))
 high-alone (suc high) low h = not-zero (suc high) (omega arith) ∙ sym (lt-leb (suc high * 4294967296 + low) 4294967295 (omega arith))
 
@@ -83,17 +79,3 @@ module _ (file : Bytes) (at high low : ℕ) (e : high ≡ number file (at + 4) 4
   both h =
       let z : at + 8 ≡ at + 4 + 4 = omega arith in
       ap₂ (λ (x y : ℕ). x * 4294967296 + y) e (f ∙ ap (λ (i : ℕ). number file i 4) z) ∙ sym (number-join file (at + 4) 4 4 (omega arith))
-
--- a spend's operand is its low half where its high one is zero
-pub amount-read : (allowed : Bool) (high low first second : ℕ) → low < 4294967296
-    → then_some (allowed && eqb high 0) (Spend (Amount low) first second)
-    ≡ then_some (allowed && leb (high * 4294967296 + low) 4294967295) (Spend (Amount (high * 4294967296 + low)) first second)
-amount-read false high low first second h = refl
-amount-read true zero low first second h =
-    let z : low ≡ 0 * 4294967296 + low = omega arith in
-    ap (λ (n : ℕ). Some (Spend (Amount n) first second)) z
-    ∙ ap (λ (b : Bool). then_some b (Spend (Amount (0 * 4294967296 + low)) first second)) (high-alone zero low h)
-amount-read true (suc high) low first second h =
-    let none : eqb (suc high) 0 ≡ false = not-zero (suc high) (omega arith) in
-    ap (λ (b : Bool). then_some b (Spend (Amount low) first second)) none
-    ∙ ap (λ (b : Bool). then_some b (Spend (Amount (suc high * 4294967296 + low)) first second)) (sym none ∙ high-alone (suc high) low h)

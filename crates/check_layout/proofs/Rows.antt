@@ -9,12 +9,11 @@ use Rattle.spec_policy.specs.Bytes.{Bytes}
 use Rattle.spec_policy.specs.Lists.{listed, every}
 use Rattle.spec_policy.specs.Records.{StepRecord, step_record_at}
 use Rattle.spec_check.specs.Layout.{step_fits}
-use Rattle.check_layout.specs.Fits.{steps_fit, fitting_step}
+use Rattle.check_layout.specs.Fits.{steps_fit, kept_if, read_as}
 use Rattle.file_records.specs.declared.Step.{Step}
 use Rattle.file_records.specs.Kinds.{step_value}
 use Rattle.spec_policy.specs.Steps.{step_of}
-use Rattle.std.specs.Bool.{then_some}
-use Rattle.std.specs.Prelude.{Some, None}
+use Rattle.std.specs.Prelude.{Ok, Err}
 
 from_one : (f : ℕ → StepRecord) (i n : ℕ) → listed f (suc i) n ≡ listed (λ k. f (suc k)) i n
 unfolding listed
@@ -46,20 +45,22 @@ module _ (file : Bytes) where
       ∙ and_assoc (step_fits (step_record_at file at)) (steps_fit file (at + 12) a) (steps_fit file (at + 12 + 12 * a) b)
       ∙ λ j. sym (first-row at a) j && steps_fit file (z j) b
 
--- ---- the step of a record that fits
+-- ---- a record as it is read
 
-then-true : {A : Type 0} (b : Bool) (x y : A) → then_some b x ≡ Some y → (b ≡ true) × (y ≡ x)
-then-true true x y e = (refl, cc)
-then-true false x y e = absurd (let h : None ≡ Some y = e in cc)
+kept-true : (b : Bool) (s t : Step) → kept_if b s ≡ Ok t → (b ≡ true) × (t ≡ s)
+unfolding kept_if
+kept-true true s t e = (refl, cc)
+kept-true false s t e = absurd (let h : Err s ≡ Ok t = e in cc)
 
-then-false : {A : Type 0} (b : Bool) (x : A) → then_some b x ≡ None → b ≡ false
-then-false true x e = absurd (let h : Some x ≡ None = e in cc)
-then-false false x e = refl
+kept-false : (b : Bool) (s t : Step) → kept_if b s ≡ Err t → b ≡ false
+unfolding kept_if
+kept-false true s t e = absurd (let h : Ok s ≡ Err t = e in cc)
+kept-false false s t e = refl
 
-pub step-given : (r : StepRecord) (s : Step) → fitting_step r ≡ Some s → (step_fits r ≡ true) × (s ≡ step_value (step_of r))
-unfolding fitting_step
-step-given r s e = then-true _ _ s e
+pub step-given : (r : StepRecord) (s : Step) → read_as r ≡ Ok s → (step_fits r ≡ true) × (s ≡ step_value (step_of r))
+unfolding read_as
+step-given r s e = kept-true _ _ _ e
 
-pub no-step-given : (r : StepRecord) → fitting_step r ≡ None → step_fits r ≡ false
-unfolding fitting_step
-no-step-given r e = then-false _ _ e
+pub no-step-given : (r : StepRecord) (s : Step) → read_as r ≡ Err s → step_fits r ≡ false
+unfolding read_as
+no-step-given r s e = kept-false _ _ _ e

@@ -1,6 +1,5 @@
 -- Rule 4 in its two parts, of the nodes and of step records.
-use Rattle.std.specs.Prelude.{ℕ, ◌+◌, ◌*◌, Bool, true, false, Option, Result, Ok, Err}
-use Rattle.std.specs.Bool.{then_some}
+use Rattle.std.specs.Prelude.{ℕ, ◌+◌, ◌*◌, Bool, true, false, Result, Ok, Err}
 use Rattle.faults.specs.declared.Refusal.{Refusal}
 use Rattle.faults.specs.declared.Refusal.TheVariants as refusals
 use Rattle.spec_policy.specs.Bytes.{Bytes}
@@ -24,9 +23,13 @@ unfit_node file = first_off (λ i x. node_fits (node_kind x.kind) x) 0 (nodes fi
 unfoldable pub unfit_step : Bytes → Spot
 unfit_step file = first_off (λ i r. step_fits r) (node_count file) (step_records file)
 
--- the step of a record that fits
-unfoldable pub fitting_step : StepRecord → Option Step
-fitting_step r = then_some (step_fits r) (step_value (step_of r))
+-- a record as it is read: its step, which is an error's where the record does not fit
+unfoldable pub kept_if : Bool → Step → Result Step Step
+kept_if true s = Ok s
+kept_if false s = Err s
+
+unfoldable pub read_as : StepRecord → Result Step Step
+read_as r = kept_if (step_fits r) (step_value (step_of r))
 
 -- every step record fits that lies from a place of the file on, of so many
 unfoldable pub steps_fit : Bytes → ℕ → ℕ → Bool

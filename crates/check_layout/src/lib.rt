@@ -7,7 +7,7 @@ ghost use Rattle.spec_policy.specs.Lists.{every};
 ghost use Rattle.spec_policy.specs.Records.{node_size, step_size, most_nodes, node_count, node_at, step_record_at, node_place, step_records, front_size};
 ghost use Rattle.spec_policy.specs.Tree.{node_kind};
 ghost use Rattle.spec_check.specs.Layout.{broken1, broken2, broken3, node_fits, step_fits};
-ghost use Rattle.check_layout.specs.Fits.{unfit_node, unfit_step, kept_or4, fitting_step};
+ghost use Rattle.check_layout.specs.Fits.{unfit_node, unfit_step, kept_or4, kept_if, read_as};
 ghost use Rattle.faults.specs.Meaning.{spot_of};
 
 pub mod counted;
@@ -69,12 +69,20 @@ fn node_fits(policy: &[u8], at: usize) -> bool
     }
 }
 
-// A step record as the walk reads it: its step, if its fields keep rule 4. The operand is read in two halves: all but two kinds ask that both are
-// zero, and a spend asks it of the high one. A compiler reads each in one load, which it does not where the whole is asked to be zero.
+// The step of a record that keeps rule 4; of one that breaks it, the same as an error.
+#[tactic(auto, unfolding(crate::specs::Fits::kept_if))]
+fn kept(fits: bool, step: Step) -> Result<Step, Step>
+    ensures { result ≡ kept_if fits step }
+{
+    if fits { Ok(step) } else { Err(step) }
+}
+
+// A step record as the walk reads it: its step, and whether its fields keep rule 4. The operand is read in two halves: all but two kinds ask that both
+// are zero, and a spend asks it of the high one. A compiler reads each in one load, which it does not where the whole is asked to be zero.
 #[inline(always)]
-pub fn read_step(policy: &[u8], at: usize) -> Option<Step>
+pub fn read_step(policy: &[u8], at: usize) -> Result<Step, Step>
     requires { at + step_size ≤ length policy.now }
-    ensures { result ≡ fitting_step (step_record_at policy.now at) }
+    ensures { result ≡ read_as (step_record_at policy.now at) }
 {
     let action = byte(policy, at + 1);
     let first = byte(policy, at + 2);
@@ -87,23 +95,35 @@ pub fn read_step(policy: &[u8], at: usize) -> Option<Step>
     let no_high = high == 0;
     let no_low = low == 0;
     match byte(policy, at) {
-        NEXT => (no_action & (no_high & no_low)).then_some(Step::Next(first, second)),
-        OK => (no_action & no_second & (no_high & no_low)).then_some(Step::Ok(first)),
-        SUP => (no_action & no_second & (no_high & no_low)).then_some(Step::Sup(first)),
-        INS => ((action <= LAST_ACTION) & no_second & (no_high & no_low)).then_some(Step::Ins(
-            Operand::Action(action),
-            first,
-        )),
+        NEXT => kept(no_action & (no_high & no_low), Step::Next(first, second)),
+        OK => kept(no_action & no_second & (no_high & no_low), Step::Ok(first)),
+        SUP => kept(no_action & no_second & (no_high & no_low), Step::Sup(first)),
+        INS => kept(
+            (action <= LAST_ACTION) & no_second & (no_high & no_low),
+            Step::Ins(Operand::Action(action), first),
+        ),
         ACASE => {
             let asked = ActionSet {
                 bits: high * HIGHER_HALF + low,
             };
-            no_action.then_some(Step::Acase(Operand::Set(asked), first, second))
+            kept(no_action, Step::Acase(Operand::Set(asked), first, second))
         }
-        SPEND => (no_action & no_high).then_some(Step::Spend(Operand::Amount(low), first, second)),
-        END => (no_action & no_first & no_second & (no_high & no_low)).then_some(Step::End),
-        HALT => (no_action & no_first & no_second & (no_high & no_low)).then_some(Step::Halt),
-        _ => None,
+        SPEND => {
+            let amount = high * HIGHER_HALF + low;
+            kept(
+                no_action & no_high,
+                Step::Spend(Operand::Amount(amount), first, second),
+            )
+        }
+        END => kept(
+            no_action & no_first & no_second & (no_high & no_low),
+            Step::End,
+        ),
+        HALT => kept(
+            no_action & no_first & no_second & (no_high & no_low),
+            Step::Halt,
+        ),
+        _ => Err(Step::Halt),
     }
 }
 
@@ -111,7 +131,7 @@ fn step_fits(policy: &[u8], at: usize) -> bool
     requires { at + step_size ≤ length policy.now }
     ensures { result ≡ step_fits (step_record_at policy.now at) }
 {
-    read_step(policy, at).is_some()
+    read_step(policy, at).is_ok()
 }
 
 // ---- rule 4, of every record

@@ -45,7 +45,7 @@ pub fn walk(policy: &[u8], at: usize, count: usize, set: ActionSet) -> Result<Wa
     let mut w = begun();
     let mut sets = [0u64; MOST_LEAF_STEPS];
     for o in 0..count {
-        let step = read_step(policy, at + STEP_SIZE * o).ok_or(Refusal::Fields)?;
+        let step = read_step(policy, at + STEP_SIZE * o).or(Err(Refusal::Fields))?;
         w = meet(w, o, count, set, step, &mut sets).ok_or(Refusal::Targets)?;
     }
     Ok(Walked {

@@ -10,7 +10,7 @@ ghost use Rattle.spec_writer.specs.Lent.{lendable, Lent};
 ghost use Rattle.file_writer.specs.Replies.{Gave};
 ghost use Rattle.spec_policy.specs.Records.{most_file};
 
-use check_policy::{Checked, check};
+use check_policy::{Checked, check, refusal};
 use faults::{Fault, Refusal};
 use file_records::{FRONT_SIZE, MOST_FILE, MOST_NODES, MOST_STEPS, NODE_SIZE, STEP_SIZE, VERSION};
 
@@ -84,7 +84,10 @@ pub fn write(nodes: &[u8], steps: &[u8], out: &mut [u8]) -> Written
     if !lendable(nodes, steps) {
         return Err(Refusal::Counts.bare());
     }
-    check_laid(nodes, steps)?;
+    let checked = check_laid(nodes, steps);
+    let Ok(_) = checked else {
+        return Err(refusal(checked));
+    };
     let length = size(nodes, steps);
     if out.len() < length {
         return Err(Refusal::Room.bare());

@@ -32,9 +32,9 @@ pub fn form_of(word: &[u8]) -> Option<usize>
 
 // The fields that a line's words say, as far as they were read, and where the rest of the words begins.
 #[derive(Clone, Copy)]
-struct Filled {
-    fields: [u64; 6],
-    at: usize,
+pub struct Filled {
+    pub fields: [u64; 6],
+    pub at: usize,
 }
 
 // Puts what was taken from the words into the field at a place.

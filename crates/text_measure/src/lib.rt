@@ -56,10 +56,10 @@ pub fn room_after(form: usize) -> usize
 
 // How many records were read, and how many more steps may follow.
 #[derive(Clone, Copy)]
-struct Tally {
-    nodes: usize,
-    steps: usize,
-    room: usize,
+pub struct Tally {
+    pub nodes: usize,
+    pub steps: usize,
+    pub room: usize,
 }
 
 // The tally after a step, which cannot stand where none may follow.

@@ -11,15 +11,23 @@ module _ (lead : ℕ → Bytes) where
   -- ---- a step, and those after it
 
   -- the k-th of them; `whole` is what is left at it, `rest` what is left after it
-  pub steps-more : (x rest whole : Bytes) (offset first k now next : ℕ) → length x ≡ 12 → whole ≡ x ++ rest → k ≡ now → next ≡ now + 1
+  steps-at : (x rest whole : Bytes) (offset first k now next : ℕ) → length x ≡ 12 → whole ≡ x ++ rest → k ≡ now → next ≡ now + 1
       → lead (first + k) ++ (shown_record step (offset + k) x ++ led_steps lead (length rest / 12) (offset + next) (first + next) rest)
       ≡ led_steps lead (length whole / 12) (offset + now) (first + now) whole
   unfolding led_steps size
-  steps-more x rest whole offset first k now next h w e f =
+  steps-at x rest whole offset first k now next h w e f =
       let n : length whole / 12 ≡ suc (length rest / 12) = omega (arith, ap length w, length-append x rest) in
       let a : offset + next ≡ suc (offset + now) = omega arith in
       let b : first + next ≡ suc (first + now) = omega arith in
       rw (n, w, e, a, b, led_steps, take_at x rest 12 h, drop_at x rest 12 h)
+
+  -- the record told is a slice that is the step's
+  pub steps-more : (t x rest whole : Bytes) (offset first k now next : ℕ) → t ≡ x → length x ≡ 12 → whole ≡ x ++ rest → k ≡ now → next ≡ now + 1
+      → lead (first + k) ++ (shown_record step (offset + k) t ++ led_steps lead (length rest / 12) (offset + next) (first + next) rest)
+      ≡ led_steps lead (length whole / 12) (offset + now) (first + now) whole
+  steps-more t x rest whole offset first k now next same h w e f =
+      ap (λ (b : Bytes). lead (first + k) ++ (shown_record step (offset + k) b ++ led_steps lead (length rest / 12) (offset + next) (first + next) rest)) same
+      ∙ steps-at x rest whole offset first k now next h w e f
 
   pub steps-over : (rest : Bytes) (j i : ℕ) → length rest < 12 → [] ≡ led_steps lead (length rest / 12) j i rest
   unfolding led_steps
@@ -107,3 +115,7 @@ left-some ss j h = go (length ss / 12) (omega arith)
     go : (n : ℕ) → 0 < n → ascii "# steps of no leaf\n" ++ led_steps (λ _. []) n j j ss ≡ shown_left n j ss
     go zero l = absurd (omega arith)
     go (suc n) l = ap (λ (x : Bytes). ascii "# steps of no leaf\n" ++ x) (steps-unled (suc n) j j ss)
+
+-- of a slice that is these steps
+pub left-of : (ss t : Bytes) (j : ℕ) → t ≡ ss → 12 ≤ length ss → ascii "# steps of no leaf\n" ++ led_steps (λ _. []) (length t / 12) j j t ≡ shown_left (length ss / 12) j ss
+left-of ss t j e h = ap (λ (x : Bytes). ascii "# steps of no leaf\n" ++ led_steps (λ _. []) (length x / 12) j j x) e ∙ left-some ss j h

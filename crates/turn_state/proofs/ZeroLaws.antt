@@ -39,26 +39,29 @@ joined a (b ∷ bs) =
     ∙ ap (λ (x : Bool). x && every is_zero bs) (zero_or a b)
     ∙ sym (and_assoc (is_zero a) (is_zero b) (every is_zero bs))
 
-module _ (state : Bytes) (at : ℕ) where
+-- so many bytes from a place on, where no more are left
+module _ (state : Bytes) (at count : ℕ) where
   abbrev rest : Bytes
-  rest = take (length state - at) (drop at state)
+  rest = take count (drop at state)
 
-  rest-is : rest ≡ drop at state
-  rest-is = take_all (length state - at) (drop at state) (omega (arith, length-drop at state))
+  rest-is : length state ≤ at + count → rest ≡ drop at state
+  rest-is all = take_all count (drop at state) (omega (arith, all, length-drop at state))
 
   -- the bytes from a node's record on, joined
-  pub rest-joined : (node x : ℕ) → at ≡ ahead_size + cell_size * node → x ≡ fold bit_or 0 rest → is_zero x ≡ every (λ b. eqb b 0) (drop (cell_place node) (cells state))
+  pub rest-joined : length state ≤ at + count → (node x : ℕ) → at ≡ ahead_size + cell_size * node → x ≡ fold bit_or 0 rest
+      → is_zero x ≡ every (λ b. eqb b 0) (drop (cell_place node) (cells state))
   unfolding cell_place
-  rest-joined node x h e =
-      ap is_zero e ∙ joined 0 rest ∙ ap (every is_zero) (rest-is ∙ ap (λ (k : ℕ). drop k state) h ∙ sym (cells_rest state (cell_size * node)))
+  rest-joined all node x h e =
+      ap is_zero e ∙ joined 0 rest ∙ ap (every is_zero) (rest-is all ∙ ap (λ (k : ℕ). drop k state) h ∙ sym (cells_rest state (cell_size * node)))
 
   -- zeros in their place
-  pub rest-cleared : (node : ℕ) (new : Bytes) → length state ≡ state_size → node ≤ most_nodes → at ≡ ahead_size + cell_size * node → new ≡ replicate (length rest) 0
-      → let out = put_mid at (length state - at) state new in
+  pub rest-cleared : at + count ≡ length state → (node : ℕ) (new : Bytes) → length state ≡ state_size → node ≤ most_nodes → at ≡ ahead_size + cell_size * node
+      → new ≡ replicate (length rest) 0
+      → let out = put_mid at count state new in
       (length out ≡ state_size) × (cells out ≡ put (cells state) (cell_place node) (replicate (length (cells state) - cell_place node) 0))
-  rest-cleared node new size most h e =
-      let n : length rest ≡ length state - at = ap length rest-is ∙ length-drop at state in
+  rest-cleared whole node new size most h e =
+      let n : length rest ≡ length state - at = ap length (rest-is (omega (arith, whole))) ∙ length-drop at state in
       let l : length new ≡ length state - at = ap length e ∙ length-replicate (length rest) zero ∙ n in
-      let p : put_mid at (length state - at) state new ≡ put state at new = part-put state new at (length state - at) l in
+      let p : put_mid at count state new ≡ put state at new = part-put state new at count (omega (arith, l, whole)) in
       zeros-saved state node at size most h (ap length p ∙ put-length state at new (omega (arith, l, size, h)))
       (p ∙ ap (put state at) (e ∙ ap (λ (k : ℕ). replicate k 0) n))

@@ -1,15 +1,16 @@
--- `step_fits` meets its contract: there is a step where the record fits.
+-- `step_fits` meets its contract: the step is no error where the record fits.
 use mathlib.Core.Path.{◌≡◌, refl, ap, ◌∙◌}
 use mathlib.Core.Bool.{Bool, true, false}
-use Rattle.std.proofs.Common.{is_some}
-use Rattle.std.specs.Bool.{then_some}
-use Rattle.check_layout.specs.Fits.{fitting_step}
+use Rattle.std.proofs.Common.{is_ok}
+use Rattle.file_records.specs.declared.Step.{Step}
+use Rattle.check_layout.specs.Fits.{kept_if, read_as}
 use Rattle.check_layout.proofs.step_fits.Goals as goal
 
-some-if : {A : Type 0} (b : Bool) (x : A) → is_some (then_some b x) ≡ b
-some-if true x = refl
-some-if false x = refl
+kept-is : (b : Bool) (s : Step) → is_ok (kept_if b s) ≡ b
+unfolding kept_if
+kept-is true s = refl
+kept-is false s = refl
 
 pub returns : goal.returns
-unfolding fitting_step
-returns c = c.is_some.ensures ∙ ap is_some c.read_step.ensures ∙ some-if _ _
+unfolding read_as
+returns c = c.is_ok.ensures.value ∙ ap is_ok c.read_step.ensures ∙ kept-is _ _

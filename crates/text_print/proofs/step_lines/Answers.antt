@@ -1,6 +1,7 @@
 use Rattle.std.proofs.Common.{rules, ◌∙◌, ap, length, arith, length-append}
 use Rattle.spec_text.specs.Forms.{size}
 use Rattle.text_forms.specs.Meant.{sort_of}
+use lib.Seq.{take_all}
 use Rattle.text_append.proofs.AddedLaws.{nothing, joined, named}
 use Rattle.text_print.proofs.PrintLaws.{steps-more, steps-over}
 use Rattle.text_print.proofs.step_lines.Goals as goal
@@ -18,7 +19,7 @@ loop-i-preserved g c =
       search rules,
       search rules,
       omega (arith, long, ap length s.0.1.0, length-append c.in-Some.step.now),
-      λ x r h. c.loop-i.invariant.4 x r (named (joined c.append_lead-led.ensures (joined c.record_line-end.ensures h)) (steps-more _ _ _ _ _ _ _ _ _ long s.0.1.0 s.1 s.2)),
+      λ x r h. c.loop-i.invariant.4 x r (named (joined c.append_lead-led.ensures (joined c.record_line-end.ensures h)) (steps-more _ _ _ _ _ _ _ _ _ _ (grind (arith, take_all)) long s.0.1.0 s.1 s.2)),
     )
 
 pub returns : goal.returns
