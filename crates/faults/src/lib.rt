@@ -34,6 +34,7 @@ impl Refusal {
     }
 
     // The refusal where no record is to blame.
+    #[tactic(auto, unfolding(crate::specs::Meaning::spot_of))]
     pub fn bare(self) -> Fault
         ensures { fault_of result ≡ bare_fault (number_of self) }
     {

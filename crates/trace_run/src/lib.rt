@@ -7,7 +7,7 @@ ghost use Rattle.trace_run.specs.Reports.{Told, Running, run_of};
 
 use actions::ActionSet;
 use call_answer::Call;
-use check_policy::check;
+use check_policy::{check, refusal};
 use faults::{Fault, Refusal};
 use trace_call::on_tail;
 use trace_events::ACTION_COUNTS;
@@ -117,7 +117,11 @@ pub fn follow_trace(
         (record { steps = steps.entry.now; actions = actions.old }))
         result state.new events.new steps.exit.now actions.new }
 {
-    let set = check(policy)?.regulated;
+    let checked = check(policy);
+    let Ok(sets) = checked else {
+        return Err(refusal(checked));
+    };
+    let set = sets.regulated;
     if state.len() != STATE_SIZE {
         return Err(Refusal::Buffers.bare());
     }

@@ -15,7 +15,7 @@ check_laid-checked-requires c = lendable-lent _ _ (sym c.lendable.ensures ∙ c.
 pub returns-in_default : goal.returns-in_default
 returns-in_default c =
     let l = lendable-lent c.args.nodes.now c.args.steps.now (sym c.lendable.ensures ∙ c.if-not-lendable.false) in
-    gave-refused c.args.nodes.now c.args.steps.now c.args.out.now l (check-refuses _ c.check_laid-checked.ensures c.in_default.is) _ (refusal_is _ c.refusal.ensures c.in_default.is)
+    gave-refused c.args.nodes.now c.args.steps.now c.args.out.now l (check-refuses _ c.check_laid-checked.ensures c.in_default.is) _ (refusal_is _ (grind arith) c.in_default.is)
 
 pub size-length-requires : goal.size-length-requires
 size-length-requires c = lendable-lent _ _ (sym c.lendable.ensures ∙ c.if-not-lendable.false)
