@@ -8,7 +8,8 @@ ghost use Rattle.spec_policy.specs.Lists.{one, every};
 ghost use Rattle.spec_policy.specs.Records.{most_nodes, node_size, node_at, node_place};
 ghost use Rattle.spec_policy.specs.Tree.{node_kind};
 ghost use Rattle.spec_turns.specs.Status.{status_of, is_running, has_ended, is_halted};
-ghost use Rattle.spec_turns.specs.Saved.{ahead_size, count_place, cell_size, state_size, cells, cell_place, status_at, offset_at, zeros_at, counter_at, ahead, count_at};
+ghost use Rattle.spec_turns.specs.Saved.{ahead_size, count_place, cell_size, state_size, ahead, count_at};
+ghost use Rattle.spec_turns.specs.Saved.{cells, cell_place, status_at, offset_at, zeros_at, counter_at};
 ghost use Rattle.laws_turns.specs.Leaves.{is_leaf};
 
 use file_records::{Kind, MOST_NODES, byte, word16, word32, word64};

@@ -47,7 +47,7 @@ loop-slot-init c = record {
       (subst (λ (ps : List Slot). T (every fitting ps)) (sym c.form_at-row.ensures.slots) (all-fitting c.args.form c.requires.1));
 }
 
--- the slot that the loop has come to, of the slots that it goes through
+-- the slot that the loop has come to; which slots the loop goes through is read off what is said of those left, so that no answer names them
 some-next : (os : List (Option code.Slot)) (k : ℕ) → T (every fitting (slots_in (drop k os))) → k < length os → (d : Option code.Slot) (p : code.Slot) → get_or os k d ≡ Some p
     → slots_in (drop k os) ≡ slot_of p ∷ slots_in (drop (k + 1) os)
 some-next os k fits h d p e = slot-some os k d h p e

@@ -1,6 +1,6 @@
 -- `follow_trace` meets its contract: the check's refusal, 11, opening, and what follows.
 use native.Mathlib.Omega.{arith}
-use mathlib.Core.Path.{◌≡◌, refl, sym, ◌∙◌}
+use mathlib.Core.Path.{◌≡◌, sym, ◌∙◌}
 use Rattle.std.proofs.Common.{rules, Err}
 use Rattle.check_policy.proofs.Answers.{check-passes, check-refuses, refusal_is}
 use Rattle.call_answer.specs.Requests.{asked}
